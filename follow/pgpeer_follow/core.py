@@ -56,20 +56,22 @@ class Core:
 
     def hand_out(self) -> None:
         """Reads answers until the program ends."""
-        with io.BufferedReader(self.child.stdout) as out:  # type: ignore[arg-type]
-            for line in out:
-                if not line.endswith(b"\n") or not self.waiting:
-                    break
-                self.moved = time.monotonic()
-                self.waiting.popleft()(line[:-1])
-        self.child.kill()
-        self.child.wait()
-        with self.lock:
-            self.has_ended = True
-            self.close_input()
-        while self.waiting:
-            self.waiting.popleft()(None)
-        self.at_end(self)
+        try:
+            with io.BufferedReader(self.child.stdout) as out:  # type: ignore[arg-type]
+                for line in out:
+                    if not line.endswith(b"\n") or not self.waiting:
+                        break
+                    self.moved = time.monotonic()
+                    self.waiting.popleft()(line[:-1])
+        finally:
+            self.child.kill()
+            self.child.wait()
+            with self.lock:
+                self.has_ended = True
+                self.close_input()
+            while self.waiting:
+                self.waiting.popleft()(None)
+            self.at_end(self)
 
     def kill(self) -> None:
         """Ends the program at once. Who waits for an answer gets None."""

@@ -51,6 +51,7 @@ class Follower:
         self.head = 0  # the log's last place, as far as was looked
         self.looked: Optional[Tuple[float, int]] = None  # when the last place was looked at, and what it was, until it is read
         self.fresh = 0.0  # what stood at this time was read; 0 at the start
+        self.is_ready = threading.Event()  # the log was read once to its end
         self.lost: Optional[Fault] = Unavailable()  # why the last look failed
         self.stopping = threading.Event()
         self.main: Optional[threading.Thread] = None
@@ -138,8 +139,10 @@ class Follower:
         place = self.replica.place
         if self.looked and place >= self.looked[1]:
             self.fresh, self.looked = self.looked[0], None
+            self.is_ready.set()
         if place >= self.head:
             self.fresh = begun
+            self.is_ready.set()
         elif not self.looked:
             self.looked = (begun, self.head)
 
@@ -164,10 +167,11 @@ class Follower:
         return time.monotonic() - self.fresh
 
     def check(self) -> None:
+        """Waits for the log to be read for the first time. Raises what is wrong with it."""
         if self.fault:
             raise self.fault
-        if not self.fresh:
-            raise Unavailable("the log isn't read yet")
+        if not self.is_ready.wait(self.settings.wait):
+            raise self.fault or Unavailable("the log isn't read yet")
 
     def until(self) -> float:
         return time.monotonic() + self.settings.wait

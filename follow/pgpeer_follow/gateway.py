@@ -141,11 +141,10 @@ class Gateway:
                 self.link = self.opened()
                 if self.access.user and not self.token:
                     self.authenticate()
-            except (OSError, http.client.HTTPException, Unsure) as fault:
+                return self.link
+            except (OSError, http.client.HTTPException, Unavailable, Unsure) as fault:
                 why = str(fault)
                 self.turn()
-        if self.link:
-            return self.link
         raise Unavailable(f"no endpoint takes a connection: {why}")
 
     def authenticate(self) -> None:
@@ -211,13 +210,13 @@ class Gateway:
         found = (self.call if writes else self.read)("/v3/kv/txn", body)
         replies = [it["response_range"] for it in found.get("responses", []) if "response_range" in it]
         items = [[Item.of(kv) for kv in it.get("kvs", [])] for it in replies]
-        return Done(found.get("succeeded", False), int(found["header"]["revision"]), items)
+        return Done(found.get("succeeded", False), int(found.get("header", {}).get("revision", 0)), items)
 
     def range(self, key: bytes, end: bytes = b"", limit: int = 0, keys_only: bool = False) -> List[Item]:
         return [Item.of(kv) for kv in self.read("/v3/kv/range", range_of(key, end, limit, keys_only)).get("kvs", [])]
 
     def grant(self, seconds: int) -> int:
-        return int(self.call("/v3/lease/grant", {"TTL": seconds})["ID"])
+        return int(self.call("/v3/lease/grant", {"TTL": seconds}).get("ID", 0))
 
     def keep(self, lease: int) -> bool:
         """Keeps a lease alive; tells whether it is."""

@@ -1,18 +1,20 @@
 """What the leader does: marks where the log is compacted, snapshots, and deleting what two snapshots made needless."""
 
+import contextlib
 import logging
 import threading
 import time
 from typing import Callable
 
 from .election import Election
-from .faults import Fault, Unavailable, Unsure
+from .faults import Fault, NotYet, Unavailable, Unsure
 from .keys import MARK
 from .log import Log
 from .replica import Replica
 from .snapshot import Deposed, Store
 
 LOOK = 0.5  # seconds between two looks
+MARKING = 2.0  # seconds for which the next place is sought for a mark
 
 log = logging.getLogger(__name__)
 
@@ -67,13 +69,17 @@ class Keeper:
         return True
 
     def mark(self, place: int, election: Election, to_log: Log) -> None:
-        """Has each follower compact its script at the next place. Where another line was faster, it is tried at the next look."""
-        if to_log.append(place, [MARK], election.fence()) is None:
-            log.info("a mark at place %d", place + 1)
-            self.wait_for(place + 1)
-
-    def wait_for(self, place: int) -> None:
-        try:
-            self.replica.wait(place, time.monotonic() + 1.0)
-        except Fault:
-            pass  # another mark does no harm
+        """Has each follower compact its script at the next place. Where lines of others are faster for long, it is left to the
+        next look."""
+        until = time.monotonic() + MARKING
+        with contextlib.suppress(NotYet):
+            while time.monotonic() < until:
+                now = to_log.append(place, [MARK], election.fence())
+                if now is None:
+                    log.info("a mark at place %d", place + 1)
+                    self.replica.wait(place + 1, until)
+                    return
+                if now <= place:
+                    raise Deposed
+                self.replica.wait(now, until)
+                place = self.replica.place

@@ -43,10 +43,10 @@ def made(keys: Keys, to_etcd: Gateway) -> None:
 
 def join(keys: Keys, to_etcd: Gateway, wanted: str = "", may_make: bool = False) -> Identity:
     """Finds the log under the prefix, or makes it. NoLog, TwoLogs, Unavailable."""
-    found = to_etcd.range(keys.identity)
+    look = [gateway.get(keys.identity), gateway.get(keys.top, keys.top_end, limit=1, keys_only=True)]
+    found, others = to_etcd.transaction([], look).found
     if not found:
-        others = to_etcd.range(keys.top, keys.top_end, limit=1, keys_only=True)
-        if others and others[0].key != keys.identity:
+        if others:
             raise TwoLogs(f"{others[0].key!r} stands under the prefix, and no log")
         if not may_make:
             raise NoLog(f"no log stands under {keys.top.decode()}")

@@ -15,6 +15,7 @@ from .gateway import Access
 from .keys import Keys
 from .metrics import Counts, Pages
 from .server import Server
+from .tell import tell
 
 USAGE = 2  # the status where the command line is wrong
 NO_SOCKET = 3  # where a socket can't be had, or a file of TLS can't be read
@@ -28,6 +29,7 @@ def parser() -> argparse.ArgumentParser:
     made.add_argument("--log-id", default="", metavar="ID", help="takes no other log")
     made.add_argument("--socket", metavar="PATH", help="answers at a Unix socket")
     made.add_argument("--listen", type=int, metavar="PORT", help="answers at a TCP port of the loopback")
+    made.add_argument("--tell", metavar="PORT or PATH", help="tells a follower the lines of standard input, and ends")
     made.add_argument("--metrics", type=int, metavar="PORT", help="has /metrics and /health at a port of the loopback")
     made.add_argument("--program", default="pgpeer", metavar="PATH", help="the built program")
     made.add_argument("--snapshot-every", type=int, default=10_000, metavar="N", help="compacts after as many places, 1 to 50000")
@@ -78,6 +80,8 @@ def follower_of(options: argparse.Namespace) -> Follower:
 def main(words: Optional[List[str]] = None) -> int:
     """Runs until SIGTERM or SIGINT."""
     options = parser().parse_args(words)
+    if options.tell:
+        return tell(options.tell, sys.stdin.buffer, sys.stdout.buffer)
     logging.basicConfig(level=options.log_level.upper(), format="%(levelname)s %(name)s: %(message)s", stream=sys.stderr)
     stopped = threading.Event()
     for number in (signal.SIGTERM, signal.SIGINT):

@@ -1,6 +1,7 @@
 """Reads the log: from the last place that is known to its end, and then by a watch. It never asks etcd for an old revision, so what
 etcd has compacted doesn't matter."""
 
+import contextlib
 import logging
 import threading
 import time
@@ -11,7 +12,7 @@ from .gateway import Gateway, Item, Watch
 from .keys import Entry, Keys, entry_of
 from .log import Log
 from .replica import Replica
-from .snapshot import Broken, Store
+from .snapshot import Broken, Snapshot, Store
 
 PAUSE = 0.2  # seconds between two tries
 PATIENCE = 60.0  # seconds for which a snapshot is looked for where the log lacks a place
@@ -37,6 +38,8 @@ class Reader:
 
     def run(self, to_log: Log, store: Store, to_etcd: Gateway, broken: Callable[[Fault], None]) -> None:
         """Until `stopping` is set."""
+        with contextlib.suppress(Broken, Fault):
+            self.apply_snapshot(store.latest(0))
         while not self.stopping.is_set():
             try:
                 revision = self.catch_up(to_log)
@@ -88,6 +91,7 @@ class Reader:
         finally:
             self.watch.close()
             self.watch = None
+            to_etcd.turn()  # the node may be one that hears nothing
 
     def next_of(self, items: List[Item]) -> Optional[List[Entry]]:
         """The entries of a watch that are next; None where a place was missed. TwoLogs."""
@@ -106,21 +110,20 @@ class Reader:
         """Goes on from the latest snapshot. The log is no whole one where there is none for long."""
         self.behind_since = self.behind_since or time.monotonic()
         try:
-            snapshot = store.latest(self.replica.place)
-            self.apply_snapshot(snapshot)
-            self.starts_over += 1
-            log.info("goes on from the snapshot of place %d", snapshot.place)
+            self.apply_snapshot(store.latest(self.replica.place))
         except (Broken, Unavailable, CoreFault) as fault:
             log.warning("no snapshot yet: %s", fault)
             if isinstance(fault, Broken) and time.monotonic() - self.behind_since > PATIENCE:
                 broken(TwoLogs("the log lacks a place, and no snapshot has it"))
 
-    def apply_snapshot(self, snapshot: object) -> None:
+    def apply_snapshot(self, snapshot: Snapshot) -> None:
         self.is_applying = True
         try:
-            self.replica.start_over(snapshot)  # type: ignore[arg-type]
+            self.replica.start_over(snapshot)
         finally:
             self.is_applying = False
+        self.starts_over += 1
+        log.info("goes on from the snapshot of place %d", snapshot.place)
 
     def kick(self) -> None:
         """Ends a watch that brings nothing, so that another one is begun; called by another thread."""

@@ -169,7 +169,7 @@ class Restarts(WithReplica):
             replica.apply(entries_of(LINES))
             answers = {self.asked(replica) for _ in range(200)}
             self.assertEqual(len(answers), 1)
-            self.assertGreater(replica.restarts, 1)
+            self.assertGreaterEqual(replica.restarts, 1)
 
     def test_a_compaction_that_fails_is_tried_again(self):
         flag = self.program("")
