@@ -55,6 +55,7 @@ class Server:
         self.lock = threading.Lock()
         self.listening: List[socket.socket] = []
         self.path: Optional[str] = None
+        self.is_closing = False
 
     def listen_tcp(self, port: int) -> int:
         """Gives the port, which the system chooses where it is 0."""
@@ -86,7 +87,7 @@ class Server:
             try:
                 link, _ = listening.accept()
             except OSError as fault:
-                if listening.fileno() < 0:
+                if self.is_closing:
                     return
                 log.warning("no connection: %s", fault)
                 threading.Event().wait(0.1)
@@ -127,6 +128,7 @@ class Server:
                 return
 
     def close(self) -> None:
+        self.is_closing = True
         for listening in self.listening:
             with contextlib.suppress(OSError):
                 listening.shutdown(socket.SHUT_RDWR)
