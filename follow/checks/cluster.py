@@ -9,7 +9,7 @@ import subprocess
 import sys
 import tempfile
 import time
-from typing import Any, Dict, List, Optional, Sequence
+from typing import Any, Dict, List, Optional, Sequence, Union
 
 ROOT = pathlib.Path(__file__).resolve().parents[2]
 PACKAGE = ROOT / "follow"
@@ -105,30 +105,39 @@ class Cluster:
         self.room.cleanup()
 
     def wait_for(self, port: int, seconds: float = STARTING) -> Dict[str, Any]:
-        """Waits until a follower answers and follows."""
-        end, told = time.monotonic() + seconds, {}
-        while time.monotonic() < end:
-            try:
-                with Client(port) as client:
-                    told = client.tell({"op": "health"})
-                if told.get("state") == "following" and "age" not in told:
-                    return told
-            except OSError:
-                pass
-            time.sleep(0.1)
-        logs = {it.name: it.read_text()[-1500:] for it in sorted(self.folder.glob("*.log"))}
-        raise TimeoutError(f"the follower at {port} says {told}: {logs}")
+        return wait_for(port, self.folder, seconds)
 
     def to_etcd(self) -> gateway.Gateway:
         return gateway.Gateway(gateway.Access(self.endpoints.split(",")))
 
 
-class Client:
-    """A connection to a follower."""
+def wait_for(address: Union[int, str], folder: pathlib.Path, seconds: float = STARTING) -> Dict[str, Any]:
+    """Waits until a follower answers and follows. TimeoutError, with what stands in the folder's logs."""
+    end, told = time.monotonic() + seconds, {}
+    while time.monotonic() < end:
+        try:
+            with Client(address) as client:
+                told = client.tell({"op": "health"})
+            if told.get("state") == "following" and "age" not in told:
+                return told
+        except OSError:
+            pass
+        time.sleep(0.1)
+    logs = {it.name: it.read_text()[-1500:] for it in sorted(folder.glob("*.log"))}
+    raise TimeoutError(f"the follower at {address} says {told}: {logs}")
 
-    def __init__(self, port: int, seconds: float = 30.0):
-        self.link = socket.create_connection(("127.0.0.1", port), timeout=seconds)
-        self.link.setsockopt(socket.IPPROTO_TCP, socket.TCP_NODELAY, 1)
+
+class Client:
+    """A connection to a follower, at a port or a Unix socket."""
+
+    def __init__(self, address: Union[int, str], seconds: float = 30.0):
+        if isinstance(address, int):
+            self.link = socket.create_connection(("127.0.0.1", address), timeout=seconds)
+            self.link.setsockopt(socket.IPPROTO_TCP, socket.TCP_NODELAY, 1)
+        else:
+            self.link = socket.socket(socket.AF_UNIX)
+            self.link.settimeout(seconds)
+            self.link.connect(address)
         self.lines = self.link.makefile("rb")
 
     def __enter__(self) -> "Client":
