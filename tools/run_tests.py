@@ -21,6 +21,7 @@ In this order, each part with its count and its seconds:
   followers of one log              three followers over three nodes of etcd answer as the program does on the lines of the log, while
                                     one of each is killed (follow/checks/many.py)
   a follower that is cut off        what it answers without the others, by network namespaces (follow/checks/partition.py)
+  a follower by TLS                 who is let in, with certificates and users of etcd (follow/checks/secured.py)
   allocations refused               each allocation of a short script refused in turn, with and without workers
                                     (refuse_allocations.py), of an explanation and of a compaction (refuse_in_subcommands.py), and
                                     of tests of the feed, the engine and runs (refuse_in_tests.py)
@@ -30,8 +31,8 @@ In this order, each part with its count and its seconds:
 --quick runs what stands before the gate alone, and --after-gate what stands after it, on the program that an earlier gate or
 `rt run` left. --seed is that of the generated scripts, 1 if not said.
 
-Needs bash, Python and `rt`, a C compiler for two of the statuses and for the last parts, and for the followers etcd, `ip` and
-root: what lacks one is left out, and a line says so. All parts except the gate take some fourteen minutes on a quiet machine. Each
+Needs bash, Python and `rt`, a C compiler for two of the statuses and for the last parts, and for the followers etcd, etcdctl,
+`ip`, root and openssl: what lacks one is left out, and a line says so. All parts except the gate take some fourteen minutes on a quiet machine. Each
 part has a bound of its own, some four times that, so that a busy machine fails none; one that takes longer has failed. The gate
 says its lines as they come, another part where it failed. Nothing is installed, and no file is left in the tree but in folders
 `out`. The last line is `N passed, M failed`, of all parts together, and the status is 1 where something failed.
@@ -191,6 +192,7 @@ def after_gate(seed: str) -> List[Part]:
     compact = python("fuzz/compact.py", "--lines", COMPACTED_LINES, "--minutes", 0.5, "--kinds", *COMPACTED_KINDS, "--seed", seed)
     follow = python("follow/checks/many.py", "--program", PROGRAM, "--seed", seed)
     cut_off = python("follow/checks/partition.py", "--program", PROGRAM)
+    secured = python("follow/checks/secured.py", "--program", PROGRAM)
     sweep = python("tools/refuse_allocations.py", PROGRAM)
     return [
         Part("tests of tools/, with the program", tests_in("tools"), 900, unit_tests, program=PROGRAM),
@@ -202,6 +204,7 @@ def after_gate(seed: str) -> List[Part]:
         Part(f"compactions, seed {seed}", compact, 400, compactions),
         Part("followers of one log", follow, 900, tried_and_wrong, ("etcd",)),
         Part("a follower that is cut off", cut_off, 300, tried_and_wrong, ("etcd", "ip")),
+        Part("a follower by TLS", secured, 200, tried_and_wrong, ("etcd", "etcdctl", "openssl")),
     ] + [
         Part(
             f"allocations refused, {script}.jsonl, {shards} shards, {workers} workers",

@@ -118,7 +118,7 @@ def wait_for(address: Union[int, str], folder: pathlib.Path, seconds: float = ST
         try:
             with Client(address) as client:
                 told = client.tell({"op": "health"})
-            if told.get("state") == "following" and "age" not in told:
+            if told.get("state") == "following" and told["is_ready"] and "age" not in told:
                 return told
         except OSError:
             pass

@@ -126,9 +126,9 @@ class Answerer:
         return envelope.answer_of(self.follower.replica.place, self.age(), envelope.compact(told))
 
     def age(self) -> Optional[int]:
-        """Whole seconds, where the follower isn't fresh."""
+        """Whole seconds, where the follower isn't fresh, and was once."""
         age = self.follower.age()
-        return int(age) if age > FRESH else None
+        return int(age) if self.follower.fresh and age > FRESH else None
 
     def counted(self, reply: bytes, answer: bytes) -> bytes:
         if answer.startswith(b'{"code":'):

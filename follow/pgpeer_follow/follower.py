@@ -52,7 +52,7 @@ class Follower:
         self.looked: Optional[Tuple[float, int]] = None  # when the last place was looked at, and what it was, until it is read
         self.fresh = 0.0  # what stood at this time was read; 0 at the start
         self.is_ready = threading.Event()  # the log was read once to its end
-        self.lost: Optional[Fault] = Unavailable()  # why the last look failed
+        self.lost: Optional[Fault] = Unavailable("etcd wasn't asked yet")  # why the last look failed
         self.stopping = threading.Event()
         self.main: Optional[threading.Thread] = None
 
@@ -107,6 +107,7 @@ class Follower:
             except Fault as fault:
                 if isinstance(fault, Unavailable) or fault.name == "Unsure":
                     log.warning("can't join yet: %s", fault)
+                    self.lost = fault
                 else:
                     self.broken(fault)
                     return None
@@ -171,7 +172,7 @@ class Follower:
         if self.fault:
             raise self.fault
         if not self.is_ready.wait(self.settings.wait):
-            raise self.fault or Unavailable("the log isn't read yet")
+            raise self.fault or Unavailable(f"the log isn't read yet: {self.lost or 'it is long'}")
 
     def until(self) -> float:
         return time.monotonic() + self.settings.wait
@@ -212,6 +213,7 @@ class Follower:
         state = fault.name if fault else "following" if has_core else CoreFault.name
         return {
             "head": max(self.head, place),
+            "is_ready": self.is_ready.is_set(),
             "leader": self.keeper.is_leader,
             "log": self.identity.log if self.identity else None,
             "place": place,

@@ -29,6 +29,7 @@ SAYS = {
     "fuzz/explain.py": "60 logs, 125 ends\n1,352 groups, 800 subsets, 0 wrong",
     "follow/checks/many.py": "5,000 lines in 40 s\n7600 checks, 0 wrong",
     "follow/checks/partition.py": "right: it has caught up\n14 checks, 0 wrong",
+    "follow/checks/secured.py": "5 checks, 0 wrong",
     "fuzz/compact.py": "Scripts: 9 story.\n9 scripts, 9,041 lines, 1,022 compactions which left out 5 of 9 entries, 8 answers after them, 0 wrong",
 }
 STUB = "import sys, time\n{before}\nprint({said!r})\nsys.exit({status})\n"
@@ -57,7 +58,7 @@ exit {status}
 """
 BUILT_C = 'mkdir -p "$2" && touch "$2/libpgpeer.so"'
 ON_C = 1 + 9  # the build of the library for C, and its checks
-FOLLOWED = 7600 + 14
+FOLLOWED = 7600 + 14 + 5
 ALL = 412 + ON_C + 3 + 110 + 2 + 47 + 14 + 24 + 1060 + 1352 + 1022 + FOLLOWED + 2 * 153 + 2 * 261 + 2 * 100
 
 
@@ -172,7 +173,7 @@ class Runs(WithTree):
         for name in SAYS:
             self.stub(name, "Traceback", 1)
         status, lines = self.run_all()
-        self.assertEqual((status, lines[-1]), (1, "116 passed, 16 failed"))
+        self.assertEqual((status, lines[-1]), (1, "116 passed, 17 failed"))
 
     def test_a_part_without_end_is_stopped(self):
         self.stub("tools/check_statuses.py", "", before="time.sleep(600)")
