@@ -4,9 +4,8 @@ Lines that came together are worked on together: entries go to etcd side by side
 answers before. A question waits for the entries before it, so a connection reads what it wrote, and its places never decrease.
 """
 
-import threading
 import time
-from typing import Callable, List, Optional
+from typing import Any, Callable, Dict, List, Optional, Tuple
 
 from . import envelope
 from .appender import Submission
@@ -14,36 +13,11 @@ from .envelope import Refused, Request
 from .faults import CoreFault, Fault
 from .follower import FRESH, Follower
 from .metrics import Counts
+from .replica import Asked
 
 TRIES = 5  # of a question whose program ended before its answer
 
 Reply = Callable[[], bytes]  # waits for an answer, and gives it
-
-
-class Question:
-    """A line that was told to the program."""
-
-    def __init__(self, follower: Follower, request: Request, after: int):
-        self.follower, self.request = follower, request
-        self.is_over = threading.Event()
-        self.answer: Optional[bytes] = None
-        self.at = follower.ask(request.line, after, self.answered)
-
-    def answered(self, answer: Optional[bytes]) -> None:
-        self.answer = answer
-        self.is_over.set()
-
-    def wait(self) -> bytes:
-        """The answer; where the program ended before, the line is told to the next one. CoreFault, NotYet."""
-        for _ in range(TRIES):
-            if not self.is_over.wait(self.follower.settings.wait):
-                raise CoreFault("the program doesn't answer")
-            answer = self.follower.checked(self.answer)
-            if answer is not None:
-                return answer
-            self.is_over.clear()
-            self.at = self.follower.ask(self.request.line, self.at, self.answered)
-        raise CoreFault("the program ends again and again")
 
 
 class Answerer:
@@ -66,7 +40,7 @@ class Answerer:
         try:
             request = envelope.read(line)
             if request.op == "health":
-                return self.health
+                return self.own({"ok": "health", **self.follower.health()})
             if request.op == "place":
                 return self.found(request)
             return self.entry(request) if request.is_entry() else self.question(request)
@@ -103,32 +77,46 @@ class Answerer:
 
     def question(self, request: Request) -> Reply:
         self.settle()
-        asked = Question(self.follower, request, max(request.after, self.floor))
+        fresh = self.follower.fresh
+        asked = self.follower.ask(request.line, max(request.after, self.floor))
 
         def reply() -> bytes:
             try:
-                answer = asked.wait()
+                at, answer, known = self.answered(request, asked, fresh)
             except Fault as fault:
                 return self.fault(fault)()
-            self.floor = max(self.floor, asked.at)
-            return self.counted(envelope.answer_of(asked.at, self.age(), answer), answer)
+            self.floor = max(self.floor, at)
+            return self.counted(envelope.answer_of(at, self.age(known), answer), answer)
 
         return reply
+
+    def answered(self, request: Request, asked: Asked, fresh: float) -> Tuple[int, bytes, float]:
+        """Waits for an answer, and gives its place, the answer, and the time from which on all is in it. Where the program ended
+        before, the question is told to the next one. CoreFault, NotYet."""
+        for _ in range(TRIES):
+            if not asked.is_over.wait(self.follower.settings.wait):
+                raise CoreFault("the program doesn't answer")
+            if asked.answer is not None:
+                return asked.at, asked.answer, fresh
+            fresh = self.follower.fresh
+            asked = self.follower.ask(request.line, asked.at)
+        raise CoreFault("the program ends again and again")
 
     def found(self, request: Request) -> Reply:
         self.settle()
         place = self.follower.find(request.token, max(request.after, self.floor))
-        text = envelope.compact({"ok": "place", "place": place})
-        return lambda: envelope.answer_of(self.follower.replica.place, self.age(), text)
+        return self.own({"ok": "place", "place": place})
 
-    def health(self) -> bytes:
-        told = {"ok": "health", **self.follower.health()}
-        return envelope.answer_of(self.follower.replica.place, self.age(), envelope.compact(told))
+    def own(self, told: Dict[str, Any]) -> Reply:
+        """An answer of the follower's own, of now."""
+        fresh, at = self.follower.fresh, self.follower.replica.place
+        self.floor = max(self.floor, at)
+        return lambda: envelope.answer_of(at, self.age(fresh), envelope.compact(told))
 
-    def age(self) -> Optional[int]:
-        """Whole seconds, where the follower isn't fresh, and was once."""
-        age = self.follower.age()
-        return int(age) if self.follower.fresh and age > FRESH else None
+    def age(self, fresh: float) -> Optional[int]:
+        """Whole seconds since all that stood was known, where they are many."""
+        age = time.monotonic() - fresh
+        return int(age) if fresh and age > FRESH else None
 
     def counted(self, reply: bytes, answer: bytes) -> bytes:
         if answer.startswith(b'{"code":'):
@@ -137,8 +125,9 @@ class Answerer:
 
     def refusal(self, refused: Refused) -> Reply:
         self.counts.refusals[refused.name] += 1
-        return lambda: envelope.refusal_of(self.follower.replica.place, self.age(), refused)
+        more = {"key": refused.key} if refused.key else {}
+        return self.own({"code": refused.code, "refused": refused.name, **more})
 
     def fault(self, fault: Fault) -> Reply:
         self.counts.refusals[fault.name] += 1
-        return lambda: envelope.fault_of(self.follower.replica.place, self.age(), fault)
+        return self.own({"code": fault.code, "refused": fault.name, "says": str(fault), **fault.more})

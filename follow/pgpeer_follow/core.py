@@ -28,6 +28,7 @@ class Core:
         self.waiting: Deque[Answered] = collections.deque()
         self.lock = threading.Lock()
         self.has_ended = False
+        self.is_void = False  # what it says from now on isn't handed out
         self.lines = self.bytes = 0  # that it was told
         self.moved = time.monotonic()  # when it last answered, or was told a line with nothing before it
         try:
@@ -59,7 +60,7 @@ class Core:
         try:
             with io.BufferedReader(self.child.stdout) as out:  # type: ignore[arg-type]
                 for line in out:
-                    if not line.endswith(b"\n") or not self.waiting:
+                    if self.is_void or not line.endswith(b"\n") or not self.waiting:
                         break
                     self.moved = time.monotonic()
                     self.waiting.popleft()(line[:-1])
@@ -74,7 +75,8 @@ class Core:
             self.at_end(self)
 
     def kill(self) -> None:
-        """Ends the program at once. Who waits for an answer gets None."""
+        """Ends the program at once. Who waits for an answer gets None, also where the program has said it already."""
+        self.is_void = True
         self.child.kill()
 
     def end(self) -> None:

@@ -152,11 +152,6 @@ def answer_of(at: int, age: Optional[int], answer: bytes) -> bytes:
     return head_of(at, age) + answer[1:]
 
 
-def refusal_of(at: int, age: Optional[int], refused: Refused) -> bytes:
-    more = {"key": refused.key} if refused.key else {}
-    return answer_of(at, age, compact({"code": refused.code, "refused": refused.name, **more}))
-
-
 def fault_of(at: int, age: Optional[int], fault: Fault) -> bytes:
     return answer_of(at, age, compact({"code": fault.code, "refused": fault.name, "says": str(fault), **fault.more}))
 

@@ -9,7 +9,6 @@ import time
 from typing import Any, Callable, Dict, Optional, Tuple
 
 from .appender import Appender, Submission
-from .core import Answered
 from .election import Election
 from .faults import CoreFault, Fault, NoLog, Unavailable
 from .gateway import Access, Gateway
@@ -17,7 +16,7 @@ from .keeper import Keeper
 from .keys import Keys
 from .log import Identity, Log, join
 from .reader import Reader
-from .replica import TAKEN, Replica
+from .replica import Asked, Replica
 from .snapshot import Store
 
 LOOK = 0.5  # seconds between two looks at the log's last place
@@ -164,7 +163,7 @@ class Follower:
     # What is asked of it
 
     def age(self) -> float:
-        """Seconds: all that stood in the log so long ago is in an answer now."""
+        """Seconds: all that stood in the log so long ago was read."""
         return time.monotonic() - self.fresh
 
     def check(self) -> None:
@@ -181,18 +180,10 @@ class Follower:
         """A line that is to stand in the log; without a token it gets one."""
         return self.appender.submit(token or f"f-{secrets.token_hex(8)}", line)
 
-    def ask(self, line: bytes, after: int, answered: Answered) -> int:
-        """Tells the program a question once a place was read, and gives the place of the answer, which comes later."""
+    def ask(self, line: bytes, after: int) -> Asked:
+        """Tells the program a question once a place was read. The answer comes later."""
         self.check()
-        return self.replica.ask(line, after, answered, self.until())
-
-    def checked(self, answer: Optional[bytes]) -> Optional[bytes]:
-        """The answer to a question. The program must not take one for an entry: it would have another log than the others."""
-        if answer is not None and answer.endswith(TAKEN):
-            log.error("the program took a question for an entry")
-            self.replica.end_wrong()
-            raise CoreFault("the program took a question for an entry")
-        return answer
+        return self.replica.ask(line, after, self.until())
 
     def find(self, token: str, after: int) -> Optional[int]:
         """The place of a token's line, None where none stood as this was called. Unavailable, NotYet."""

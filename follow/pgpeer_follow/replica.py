@@ -27,6 +27,19 @@ Heard = Callable[[Known], None]  # is called with a line that was answered
 log = logging.getLogger(__name__)
 
 
+class Asked:
+    """A question that was told to the program, the place of its answer, and the answer: None where the program ended before."""
+
+    def __init__(self) -> None:
+        self.is_over = threading.Event()
+        self.answer: Optional[bytes] = None
+        self.at = 0
+
+    def end(self, answer: Optional[bytes]) -> None:
+        self.answer = answer
+        self.is_over.set()
+
+
 class Replica:
     """What the follower has of the log. One thread applies entries, any number ask."""
 
@@ -229,9 +242,8 @@ class Replica:
                 raise NotYet(f"place {place} isn't there yet")
             self.change.wait(left)
 
-    def ask(self, line: bytes, after: int, answered: Answered, until: float) -> int:
-        """Tells the program a line that is no entry of the log, once that place was read. Gives the place of the answer.
-        NotYet, CoreFault."""
+    def ask(self, line: bytes, after: int, until: float) -> Asked:
+        """Tells the program a line that is no entry of the log, once that place was read. NotYet, CoreFault."""
         with self.change:
             self.wait_within(after, until)
             while True:
@@ -239,12 +251,26 @@ class Replica:
                     if self.core.is_worn():
                         self.needs_core.set()
                     with contextlib.suppress(CoreFault):
-                        self.core.tell([line], [answered])
-                        return self.place
+                        asked = Asked()
+                        self.core.tell([line], [self.questioned(self.core, asked)])
+                        asked.at = self.place
+                        return asked
                 left = until - time.monotonic()
                 if left <= 0 or self.is_ended:
                     raise CoreFault("the program doesn't run")
                 self.change.wait(min(left, 0.1))
+
+    def questioned(self, core: Core, asked: Asked) -> Answered:
+        """What is done with the answer to a question. A program that took one for an entry has another log than the others."""
+
+        def answered(answer: Optional[bytes]) -> None:
+            if answer is not None and answer.endswith(TAKEN):
+                log.error("the program took a question for an entry")
+                core.kill()
+                answer = None
+            asked.end(answer)
+
+        return answered
 
     def at(self) -> Tuple[int, bool]:
         """The place, and whether the program runs."""
@@ -256,12 +282,6 @@ class Replica:
             if core and core.hangs():
                 log.error("the program doesn't answer, and is ended")
                 core.kill()
-
-    def end_wrong(self) -> None:
-        """Ends a program that isn't as the log has it, so that it is run anew."""
-        core = self.core
-        if core:
-            core.kill()
 
     def end(self) -> None:
         self.is_ended = True

@@ -127,12 +127,11 @@ class Answers(unittest.TestCase):
             self.assertEqual(reply, said)
             self.assertEqual(envelope.split(reply), (7, age, b'{"ok":"ask"}'))
 
-    def test_a_refusal_and_a_fault(self):
-        self.assertEqual(envelope.refusal_of(3, None, envelope.Refused(34, "BadField", "after")), b'{"at":3,"code":34,"key":"after","refused":"BadField"}')
+    def test_a_fault(self):
         self.assertEqual(json.loads(envelope.fault_of(3, 9, NotYet("late", token="a"))), {"at": 3, "age": 9, "code": 80, "refused": "NotYet", "says": "late", "token": "a"})
 
     def test_a_key_that_is_no_text_is_told_all_the_same(self):
-        json.loads(envelope.refusal_of(0, None, envelope.Refused(33, "UnknownKey", "\ud800")))
+        json.loads(envelope.compact({"key": "\ud800"}))
 
 
 if __name__ == "__main__":

@@ -42,15 +42,9 @@ class WithReplica(unittest.TestCase):
 
     def asked(self, replica, line=ASK, after=0, seconds=10.0):
         """The place and the answer of a question."""
-        over, found = threading.Event(), []
-
-        def answered(answer):
-            found.append(answer)
-            over.set()
-
-        at = replica.ask(line, after, answered, time.monotonic() + seconds)
-        self.assertTrue(over.wait(seconds))
-        return at, found[0]
+        asked = replica.ask(line, after, time.monotonic() + seconds)
+        self.assertTrue(asked.is_over.wait(seconds))
+        return asked.at, asked.answer
 
     def program(self, text):
         """A program of a few lines of shell."""
@@ -73,7 +67,7 @@ class Answers(WithReplica):
     def test_a_place_that_isn_t_there_is_waited_for(self):
         replica = self.made()
         with self.assertRaises(NotYet):
-            replica.ask(ASK, 1, print, time.monotonic() + 0.1)
+            replica.ask(ASK, 1, time.monotonic() + 0.1)
         threading.Timer(0.3, lambda: replica.apply(entries_of(LINES))).start()
         self.assertEqual(self.asked(replica, after=9)[0], 9)
 
@@ -147,11 +141,28 @@ class Restarts(WithReplica):
         self.assertEqual(self.asked(replica), (9, by_program("run", [*LINES, ASK])[-1]))
         self.assertEqual([self.heard[it] for it in sorted(self.heard)], by_program("run", LINES))
 
+    def test_what_a_program_says_behind_a_line_that_it_had_no_memory_for_is_not_believed(self):
+        flag = self.program("")
+        told = 'echo \'{"code":51,"refused":"Memory"}\'; echo \'{"code":40,"refused":"UnknownGroup"}\''
+        failing = self.program(f'if [ "$1" = run ] && [ -e {flag} ]; then rm {flag}; read a; read b; {told}; exec sleep 9; fi; exec {STANDIN} "$1"')
+        replica = self.made(failing)
+        replica.apply(entries_of([MAP]))
+        answers = [self.asked(replica), self.asked(replica)]
+        self.assertEqual([it for it in answers if it[1] is not None][-1:], [(1, by_program("run", [MAP, ASK])[-1])])
+        self.assertNotIn(b"UnknownGroup", answers[0][1] or b"")
+
+    def test_a_program_that_takes_a_question_for_an_entry_isn_t_believed(self):
+        replica = self.made()
+        replica.apply(entries_of([MAP]))
+        self.assertEqual(self.asked(replica, INFO % 0), (1, None))
+        wait_until(lambda: self.asked(replica)[1] is not None)
+        self.assertEqual(self.asked(replica), (1, by_program("run", [MAP, ASK])[-1]))
+
     def test_a_program_that_can_t_be_run(self):
         replica = self.made("/nowhere/pgpeer")
         replica.apply(entries_of(LINES))
         with self.assertRaises(CoreFault):
-            replica.ask(ASK, 0, print, time.monotonic() + 0.3)
+            replica.ask(ASK, 0, time.monotonic() + 0.3)
         self.assertEqual(replica.at(), (9, False))
 
     def test_a_program_that_hangs_is_ended(self):

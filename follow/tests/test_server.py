@@ -117,14 +117,24 @@ class Answers(WithServer):
         self.assertEqual([it["refused"] for it in self.raw(ASK + b"\n" + INFO % 0)], ["TwoLogs"] * 2)
         self.assertEqual(self.raw(b'{"op":"health"}')[0]["state"], "TwoLogs")
 
-    def test_a_program_that_takes_a_question_for_an_entry_isn_t_believed(self):
+    def test_a_question_whose_program_is_killed_is_told_to_the_next_one(self):
         self.raw(MAP)
-        before = self.follower.replica.restarts
-        self.follower.replica.core.tell([INFO % 0], [lambda _: None])
-        with self.assertRaises(Exception):
-            self.follower.checked(b'{"count":2,"epoch":1,"ok":"info"}')
-        wait_until(lambda: self.follower.replica.restarts > before)
-        self.assertEqual(self.raw(ASK)[0]["count"], 1)
+        killing = threading.Event()
+
+        def kill():
+            while not killing.wait(0.3):
+                core = self.follower.replica.core
+                if core:
+                    core.kill()
+
+        act = threading.Thread(target=kill, daemon=True)
+        act.start()
+        try:
+            found = self.raw(b"\n".join([ASK] * 300))
+        finally:
+            killing.set()
+        self.assertLess(len([it for it in found if it.get("refused") == "CoreFault"]), 300)
+        self.assertEqual({it.get("verdict", it.get("refused")) for it in found} - {"CoreFault"}, {"Waiting"})
 
 
 class Hostile(WithServer):
