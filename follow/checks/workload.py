@@ -30,9 +30,9 @@ class Workload:
     def entry(self) -> Line:
         """An entry; a few are refused."""
         kind = self.rng.random()
-        if kind < 0.1:
+        if kind < 0.05:
             return self.inc()
-        if kind < 0.13:
+        if kind < 0.08:
             return {"op": "inc", "epoch": self.epoch, "down": [self.rng.randrange(DEVICES)]}  # a gap
         return self.log_entries() if kind < 0.3 else self.info()
 
