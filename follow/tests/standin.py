@@ -6,7 +6,6 @@ import sys
 
 sys.path.insert(0, str(pathlib.Path(__file__).resolve().parents[2] / "fuzz"))
 
-import compact  # noqa: E402
 import model  # noqa: E402
 
 
@@ -23,6 +22,8 @@ def main() -> None:
     if sys.argv[1] == "run":
         run()
     else:
+        import compact  # takes longer to load than a run
+
         text, said = compact.by_model(sys.stdin.buffer.read())
         sys.stdout.buffer.write(text)
         sys.stderr.buffer.write(said)

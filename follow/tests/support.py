@@ -15,7 +15,7 @@ INFO = b'{"op":"info","pg":[1,0],"from":[%d,0],"stamp":1,"les":0,"history_les":0
 ASK = b'{"op":"ask","pg":[1,0]}'
 
 
-def wait_until(is_so: Callable[[], object], seconds: float = 20.0) -> None:
+def wait_until(is_so: Callable[[], object], seconds: float = 120.0) -> None:
     """Waits until something is so."""
     end = time.monotonic() + seconds
     while not is_so():

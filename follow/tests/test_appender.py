@@ -36,7 +36,7 @@ class WithAppender(unittest.TestCase):
         self.store = Store()
         keys, etcd = Keys("/pgpeer/"), FakeGateway(self.store)
         self.log = Log(keys, join(keys, etcd, may_make=True), etcd)
-        self.appender = Appender(2.0)
+        self.appender = Appender(60.0)
         self.replica = FakeReplica(self.log_of_another(), self.appender.heard)
         self.broken = []
 
@@ -114,7 +114,7 @@ class Appends(WithAppender):
 class Refusals(WithAppender):
     def setUp(self):
         super().setUp()
-        self.appender.seconds = 0.3
+        self.appender.seconds = 1.5
 
     def test_nothing_was_written(self):
         self.store.faults += [Unavailable("gone")] * 100

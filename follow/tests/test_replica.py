@@ -40,7 +40,7 @@ class WithReplica(unittest.TestCase):
         self.addCleanup(made.end)
         return made
 
-    def asked(self, replica, line=ASK, after=0, seconds=10.0):
+    def asked(self, replica, line=ASK, after=0, seconds=60.0):
         """The place and the answer of a question."""
         asked = replica.ask(line, after, time.monotonic() + seconds)
         self.assertTrue(asked.is_over.wait(seconds))
@@ -107,7 +107,7 @@ class Marks(WithReplica):
         marking.start()
         time.sleep(0.5)
         self.assertEqual(self.asked(replica)[0], 9)
-        marking.join(20)
+        marking.join(120)
         self.assertEqual(self.asked(replica)[0], 10)
 
 
@@ -203,14 +203,14 @@ class Cores(WithReplica):
         core = Core(self.program("exec cat"), lambda _: ended.set())
         core.tell([b"x" * 1000] * 5000, [found.append] * 5000)
         core.end()
-        self.assertTrue(ended.wait(20))
+        self.assertTrue(ended.wait(120))
         self.assertEqual(found, [b"x" * 1000] * 5000)
 
     def test_lines_without_an_answer_are_given_back(self):
         ended, found = threading.Event(), []
         core = Core(self.program('read a; echo "$a"; read b; printf half; exit 0'), lambda _: ended.set())
         core.tell([b"a", b"b", b"c"], [found.append] * 3)
-        self.assertTrue(ended.wait(20))
+        self.assertTrue(ended.wait(120))
         self.assertEqual(found, [b"a", None, None])
         with self.assertRaises(CoreFault):
             core.tell([b"d"], [found.append])
