@@ -7,7 +7,8 @@ Four clients append lines at once through all followers, and ask. In the midst a
 node of etcd that leads. Then the whole log is read from etcd. Each answer, with its place, has to be that of `pgpeer run` on the
 lines of the log up to that place, byte for byte; where the log was compacted, on what `pgpeer compact` left there and the lines
 since. On the whole log without compaction it has to be the same but for its count. Each line that was acknowledged has to stand at
-its place, once. A follower that begins anew has to answer as the others do. Then bad lines get their named refusals, and a
+its place, once. A follower that begins anew, from a snapshot, has to answer as the others do, and what two snapshots make needless
+has to be deleted. Then bad lines get their named refusals, and a
 follower without etcd goes on (`outages.py`).
 
 The last line is `N checks, M wrong`. Status 1: something was wrong. Status 3: etcd isn't there.
@@ -58,8 +59,10 @@ def checked(program: str, lines: int, every: int, seed: str, seconds: float) -> 
         load.run(4, seconds)
         took = time.monotonic() - begun
         nuisance.join(30)
+        made.followers[0].kill()
+        made.followers[0].start()
         for port in made.ports:
-            made.wait_for(port)
+            made.wait_for(port, 60)
         load.answers += outages.asked_alike(made, load)
         log = recorder.finish()
         wrong = load.wrong + truth.misplaced(log, load.told, load.unsure) + truth.faults_of(program, log, load.answers)
@@ -68,7 +71,7 @@ def checked(program: str, lines: int, every: int, seed: str, seconds: float) -> 
         marks = sum(it.is_mark for it in log)
         print(f"{len(load.told):,} lines in {took:.0f} s, {len(log):,} places, {marks} marks, {len(load.answers):,} answers; {'; '.join(notes)}")
         print(f"told once more: {dict(load.again)}")
-        found = outages.named_refusals(made) + outages.without_etcd(made)
+        found = outages.kept_short(made, log) + outages.named_refusals(made) + outages.without_etcd(made)
     wrong += [says for is_well, says in found if not is_well]
     for says in wrong[:20]:
         print(f"    {says[:600]}")

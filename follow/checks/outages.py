@@ -13,7 +13,9 @@ from workload import GROUPS, told
 
 from pgpeer_follow import envelope
 from pgpeer_follow.gateway import Gateway
-from pgpeer_follow.keys import LONGEST_LINE
+from pgpeer_follow.keys import LONGEST_LINE, Entry, Keys
+from pgpeer_follow.log import join
+from pgpeer_follow.snapshot import Store
 
 Found = List[Tuple[bool, str]]  # whether it was as wanted, and what it was
 
@@ -57,6 +59,27 @@ def leading_node(made: cluster.Cluster) -> cluster.Process:
         except (OSError, ValueError, KeyError, http.client.HTTPException):
             continue
     return made.nodes[0]
+
+
+def kept_short(made: cluster.Cluster, log: List[Entry]) -> Found:
+    """The last two snapshots are there, the log begins behind the first of them, and a follower that was run again began there."""
+    keys, to_etcd = Keys("/pgpeer/"), made.to_etcd()
+    store, end = Store(keys, join(keys, to_etcd), to_etcd), time.monotonic() + 60
+    wanted = [it.place for it in log if it.is_mark][-2:]
+    places: List[int] = []
+    first = 0
+    while time.monotonic() < end:
+        places = [it.place for it in store.manifests()]
+        first = keys.place_of(to_etcd.range(keys.place(0), keys.log_end, limit=1, keys_only=True)[0].key) or 0
+        if places == wanted and (len(places) < 2 or first == places[0] + 1):
+            break
+        time.sleep(0.5)
+    is_short = places == wanted and (len(places) < 2 or first == places[0] + 1)
+    begun = made.followers[0].log.read_text().rpartition("listens at")[2]
+    return [
+        (is_short, f"after marks {wanted} there are snapshots of {places}, and the log begins at {first}"),
+        (not wanted or "goes on from the snapshot" in begun, f"a follower that was run again says {begun}"),
+    ]
 
 
 def asked_alike(made: cluster.Cluster, load: Load) -> List[Answer]:

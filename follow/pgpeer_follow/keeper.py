@@ -55,7 +55,7 @@ class Keeper:
             self.stored = manifests[-1].place if manifests else 0
         base, place = self.replica.base, self.replica.place
         if base.place > self.stored:
-            made = store.store(base, election.fence())
+            made = store.store(base, election.fence(), election.leads)
             self.stored = base.place
             self.made += 1
             log.info("snapshot of place %d: %d lines, %d bytes in %d pieces", made.place, len(base.script), made.size, made.pieces)

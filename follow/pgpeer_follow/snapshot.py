@@ -8,7 +8,7 @@ import hashlib
 import json
 import secrets
 import zlib
-from typing import List, NamedTuple, Tuple
+from typing import Callable, List, NamedTuple, Tuple
 
 from . import gateway
 from .gateway import Body, Gateway
@@ -109,12 +109,13 @@ class Store:
         if not self.to_etcd.transaction([is_this, fence, *compares], operations).succeeded:
             raise Deposed
 
-    def store(self, snapshot: Snapshot, fence: Body) -> Manifest:
-        """Writes a snapshot, its manifest last. It is thrown away before where the leader is deposed."""
+    def store(self, snapshot: Snapshot, fence: Body, keep: Callable[[], object] = int) -> Manifest:
+        """Writes a snapshot, its manifest last. `keep` is called before each piece, and keeps the lease. Deposed."""
         text, maker = packed(snapshot), secrets.token_hex(8)
         top = self.keys.pieces_of(snapshot.place, maker)
         pieces = [text[at : at + PIECE] for at in range(0, len(text), PIECE)]
         for number, piece in enumerate(pieces):
+            keep()
             self.fenced(fence, [gateway.put(top + b"%06d" % number, piece)])
         made = Manifest(snapshot.place, maker, len(pieces), len(text), hashlib.sha256(text).hexdigest())
         key = self.keys.snapshot(snapshot.place)

@@ -56,6 +56,11 @@ class Snapshots(WithStore):
         self.assertLessEqual(max(len(it.value) for it in self.store.items.values()), 512 * 1024)
         self.assertEqual(self.snapshots.latest(0), large)
 
+    def test_the_lease_is_kept_meanwhile(self):
+        kept = []
+        made = self.snapshots.store(self.of(5, random_lines(30, 60_000)), self.fence, lambda: kept.append(1))
+        self.assertEqual(len(kept), made.pieces)
+
     def test_the_latest_is_read_where_it_is_later(self):
         for place in (5, 9):
             self.snapshots.store(self.of(place), self.fence)
