@@ -43,7 +43,7 @@ class Submission:
     def outcome(self) -> None:
         """Raises what was wrong; else `place` and `answer` are there."""
         if self.fault:
-            raise self.fault
+            raise self.fault.with_traceback(None)
         if self.place and not self.answer:
             raise Unanswered("the line stands, and its answer is still to come", place=self.place, token=self.token)
         if not self.place and self.may_stand:

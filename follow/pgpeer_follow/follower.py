@@ -10,7 +10,7 @@ from typing import Any, Callable, Dict, Optional, Tuple
 
 from .appender import Appender, Submission
 from .election import Election
-from .faults import CoreFault, Fault, NoLog, Unavailable
+from .faults import CoreFault, Fault, NoLog, Unavailable, WrongCluster
 from .gateway import Access, Gateway
 from .keeper import Keeper
 from .keys import Keys
@@ -168,10 +168,14 @@ class Follower:
 
     def check(self) -> None:
         """Waits for the log to be read for the first time. Raises what is wrong with it."""
-        if self.fault:
-            raise self.fault
-        if not self.is_ready.wait(self.settings.wait):
-            raise self.fault or Unavailable(f"the log isn't read yet: {self.lost or 'it is long'}")
+        if not self.fault:
+            self.is_ready.wait(self.settings.wait)
+        fault = self.fault
+        if not fault and not self.is_ready.is_set():
+            is_other = isinstance(self.lost, WrongCluster)
+            fault = self.lost if is_other else Unavailable(f"the log isn't read yet: {self.lost or 'it is long'}")
+        if fault:
+            raise fault.with_traceback(None)  # the same fault is raised many times
 
     def until(self) -> float:
         return time.monotonic() + self.settings.wait

@@ -20,7 +20,7 @@ from fake_etcd import FakeGateway, Store
 from support import ASK, INFO, MAP, STANDIN, wait_until
 from pgpeer_follow import envelope, main, server
 from pgpeer_follow import tell as teller
-from pgpeer_follow.faults import TwoLogs
+from pgpeer_follow.faults import Fault, TwoLogs, Unavailable, WrongCluster
 from pgpeer_follow.follower import Follower, Settings
 from pgpeer_follow.gateway import Access
 from pgpeer_follow.keys import LONGEST_LINE, Keys
@@ -118,24 +118,24 @@ class Answers(WithServer):
         self.assertEqual([it["refused"] for it in self.raw(ASK + b"\n" + INFO % 0)], ["TwoLogs"] * 2)
         self.assertEqual(self.raw(b'{"op":"health"}')[0]["state"], "TwoLogs")
 
+    def test_a_follower_that_can_t_begin_says_why(self):
+        other = FakeFollower(self.store, wait=0.1)
+        self.addCleanup(other.stop)
+        for lost, name in ((Unavailable("gone"), "Unavailable"), (WrongCluster("other"), "WrongCluster")):
+            other.lost = lost
+            with self.assertRaises(Fault) as caught:
+                other.check()
+            self.assertEqual((caught.exception.name, other.health()["state"]), (name, name))
+
     def test_a_question_whose_program_is_killed_is_told_to_the_next_one(self):
         self.raw(MAP)
-        killing = threading.Event()
-
-        def kill():
-            while not killing.wait(0.3):
-                core = self.follower.replica.core
-                if core:
-                    core.kill()
-
-        act = threading.Thread(target=kill, daemon=True)
-        act.start()
-        try:
-            found = self.raw(b"\n".join([ASK] * 300))
-        finally:
-            killing.set()
-        self.assertLess(len([it for it in found if it.get("refused") == "CoreFault"]), 300)
-        self.assertEqual({it.get("verdict", it.get("refused")) for it in found} - {"CoreFault"}, {"Waiting"})
+        core = self.follower.replica.core
+        killing = threading.Timer(0.1, core.kill)
+        killing.start()
+        found = self.raw(b"\n".join([ASK] * 300))
+        killing.join()
+        self.assertEqual(({it.get("verdict") for it in found}, len(found)), ({"Waiting"}, 300))
+        wait_until(lambda: self.follower.replica.core not in (None, core))
 
 
 class Hostile(WithServer):
