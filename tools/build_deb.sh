@@ -36,7 +36,7 @@ trap 'rm -rf -- "$stage"' EXIT
 chmod 755 "$stage"
 umask 022
 
-DESTDIR=$stage "$root/tools/install.sh" ${program[@]+"${program[@]}"} /usr >/dev/null
+PYTHON=/usr/bin/python3 DESTDIR=$stage "$root/tools/install.sh" ${program[@]+"${program[@]}"} /usr >/dev/null
 bin=$stage/usr/bin/pgpeer doc=$stage/usr/share/doc/pgpeer
 version=$("$bin" --version)
 version=${version#pgpeer }
@@ -46,9 +46,9 @@ arch=$(dpkg --print-architecture)
 if command -v strip >/dev/null && [ "$(head -c 4 "$bin" | tail -c 3)" = ELF ]; then
     strip --strip-unneeded --remove-section=.comment --remove-section=.note "$bin"
 fi
-gzip -9 -n "$stage/usr/share/man/man1/pgpeer.1"
+gzip -9 -n "$stage"/usr/share/man/man1/*
 install -d "$stage/usr/share/zsh/vendor-completions"
-mv "$stage/usr/share/zsh/site-functions/_pgpeer" "$stage/usr/share/zsh/vendor-completions/_pgpeer"
+mv "$stage"/usr/share/zsh/site-functions/_* "$stage/usr/share/zsh/vendor-completions"
 rmdir "$stage/usr/share/zsh/site-functions"
 
 cat >"$doc/copyright" <<END
@@ -81,12 +81,13 @@ Architecture: $arch
 Maintainer: $maintainer
 Section: admin
 Priority: optional
-Depends: libc6
+Depends: libc6, python3 (>= 3.9)
+Suggests: ceph-common, ceph-base, ceph-osd
 Installed-Size: $(du -sk "$stage/usr" | cut -f1)
 Description: peering core of an object store with placement groups
  Reads a script of map incrementals, reports of storage daemons and questions,
  and says where objects lie, whether a placement group may serve, and why it
- doesn't.
+ doesn't. The command pgpeer-ceph makes such a script of a Ceph cluster.
 END
 (cd "$stage" && find usr -type f -print0 | LC_ALL=C sort -z | xargs -0 md5sum >DEBIAN/md5sums)
 

@@ -12,11 +12,12 @@ import tempfile
 import time
 from typing import Dict, Iterator, List, NamedTuple, Optional
 
+import ceph_package  # noqa: F401
 from ceph_cluster import room, run
 from ceph_compare import Result, compare_record, table, verdict_table
-from ceph_map import group_text
 from ceph_outages import Record, kept, lived
-from ceph_sets import printed_sets
+from pgpeer_ceph.maps import group_text
+from pgpeer_ceph.sets import printed_sets
 
 MOST_SHOWN = 30
 TRIES = 3  # of a cluster

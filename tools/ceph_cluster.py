@@ -14,7 +14,8 @@ import time
 import uuid
 from typing import Any, Dict, Iterator, List, NamedTuple, Optional
 
-from ceph_json import Unusable
+import ceph_package  # noqa: F401
+from pgpeer_ceph.nodes import Unusable
 
 MOST_SECONDS = 60  # for one command
 LIBC = ctypes.CDLL(None)

@@ -18,8 +18,9 @@ import uuid
 from dataclasses import asdict, dataclass, field
 from typing import Any, Callable, Dict, List, Optional, Tuple
 
+import ceph_package  # noqa: F401
 from ceph_cluster import MOST_SECONDS, Cluster, run
-from ceph_json import Unusable
+from pgpeer_ceph.nodes import Unusable
 
 DEBIAN = "/usr/lib/python3/dist-packages"
 SETTLED, PATIENCE, POLL = 0.6, 14.0, 0.3  # seconds

@@ -10,9 +10,9 @@ PATH is the built program (by default crates/pgpeer/out/pgpeer). Needs Debian's 
 The first form has maps. Two are made by `osdmaptool --createsimple` and `crushtool --build`. For the others a monitor runs on
 the loopback address in a folder of its own; each of 24 devices boots once, as an OSD that keeps its store in memory, and is
 stopped again while the flag nodown keeps it up. Then trees, pools, devices that are down, out, reweighted or removed, and
-pg_temp lists are given by `ceph`, as an operator would. Each map is taken over by from_ceph.py, every group is asked for, and
+pg_temp lists are given by `ceph`, as an operator would. Each map is taken over by `pgpeer-ceph map`, every group is asked for, and
 the up and acting sets and primaries are compared with those of `osdmaptool --test-map-pgs-dump-all`. Prints a table in
-Markdown. The maps of its first part have to agree; those of the second hold what from_ceph.py says that it can't carry over,
+Markdown. The maps of its first part have to agree; those of the second hold what it says that it can't carry over,
 and their differences are counted. --keep writes each map's dumps into FOLDER. NAME is a map to make; without one all are made.
 
 The second form takes N clusters whose devices run through random outages, and compares all groups after each step: sets,
@@ -30,15 +30,18 @@ import subprocess
 import sys
 from typing import Any, Callable, Dict, Iterator, List, NamedTuple, Tuple
 
+import ceph_package  # noqa: F401
 import ceph_check_outages
-import from_ceph
 from ceph_cluster import Cluster, Dumps, room, run
-from ceph_json import Unusable, ended
-from ceph_sets import Where, printed_sets
-from group_steps import answers
+from pgpeer_ceph.maps import ERASURE
+from pgpeer_ceph.nodes import Unusable, parsed
+from pgpeer_ceph.output import ended
+from pgpeer_ceph.sets import Where, printed_sets
+from pgpeer_ceph.steps import answers
+from pgpeer_ceph.trees import PROFILE
 
-HERE = pathlib.Path(__file__).resolve().parent
-PROGRAM = HERE.parent / "crates/pgpeer/out/pgpeer"
+ROOT = pathlib.Path(__file__).resolve().parent.parent
+PROGRAM = ROOT / "crates/pgpeer/out/pgpeer"
 DEVICES = 24
 TOOLS = ("osdmaptool", "crushtool", "monmaptool", "ceph", "ceph-authtool", "ceph-mon", "ceph-osd")
 MOST_SHOWN = 5  # differences of a map that has to differ
@@ -60,12 +63,12 @@ def pgpeer_says(program: str, script: str) -> Dict[Tuple[int, int], Where]:
 
 
 def script_of(dumps: Dumps, folder: str) -> Tuple[str, str]:
-    """The script that from_ceph.py makes of the dumps, with a question for each group, and what it tells."""
+    """The script that `pgpeer-ceph map` makes of the dumps, with a question for each group, and what it tells."""
     files = []
     for name, text in (("osdmap.json", dumps.osdmap), ("crush.json", dumps.crush)):
         files.append(os.path.join(folder, name))
         pathlib.Path(files[-1]).write_text(text)
-    tool = [sys.executable, str(HERE / "from_ceph.py"), "--alone", "--ask", *files]
+    tool = [sys.executable, str(ROOT / "ceph/pgpeer-ceph"), "map", "--alone", "--ask", *files]
     run = subprocess.run(tool, capture_output=True, text=True)
     if run.returncode != 0:
         raise Unusable(run.stderr)
@@ -94,8 +97,8 @@ def compared(program: str, name: str, dumps: Dumps, folder: str) -> Row:
     if ours.keys() - theirs.keys():
         raise Unusable(f"{name}: Ceph has no groups {sorted(ours.keys() - theirs.keys())}")
     other = [f"{p}.{g:x}: pgpeer {ours[p, g]}, Ceph {theirs[p, g]}" for p, g in sorted(ours) if ours[p, g] != theirs[p, g]]
-    osdmap = from_ceph.parsed(dumps.osdmap, name).value
-    erasure = {pool["pool"] for pool in osdmap["pools"] if pool["type"] == from_ceph.ERASURE}
+    osdmap = parsed(dumps.osdmap, name).value
+    erasure = {pool["pool"] for pool in osdmap["pools"] if pool["type"] == ERASURE}
     in_erasure = sum(pool in erasure for pool, _ in theirs)
     osds = osdmap["osds"]
     return Row(
@@ -121,7 +124,7 @@ def table(rows: List[Row]) -> str:
 
 def tree_text(tree: Dict[str, Tuple[str, str, Dict[str, float]]], rules: List[str]) -> str:
     """A tree for crushtool, of buckets from the lowest: by name their type, kind, and items with weights."""
-    tunables = {**from_ceph.PROFILE, "straw_calc_version": 1, "allowed_bucket_algs": 54}
+    tunables = {**PROFILE, "straw_calc_version": 1, "allowed_bucket_algs": 54}
     lines = [f"tunable {name} {value}" for name, value in tunables.items()]
     lines += [f"device {osd} osd.{osd}" for osd in range(DEVICES)]
     lines += [f"type {number} {name}" for number, name in enumerate(("osd", "host", "rack", "row", "root"))]
@@ -370,11 +373,11 @@ def main() -> int:
     if not os.access(options.program, os.X_OK):
         parser.error(f"no program {options.program}; README.md says how to build it")
     if options.again:
-        return ended("check_against_ceph", lambda: ceph_check_outages.again(options.program, options.again))
+        return ended(lambda: ceph_check_outages.again(options.program, options.again), "check_against_ceph")
     absent = [tool for tool in TOOLS if not shutil.which(tool)]
     if absent:
         parser.error(f"no {', '.join(absent)}; they are in Debian's ceph-base, ceph-common, ceph-mon and ceph-osd")
-    return ended("check_against_ceph", lambda: checked(options, known))
+    return ended(lambda: checked(options, known), "check_against_ceph")
 
 
 def checked(options: argparse.Namespace, known: List[str]) -> int:

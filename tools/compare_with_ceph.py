@@ -26,7 +26,9 @@ import subprocess
 import sys
 import tempfile
 
-from ceph_json import Unusable, ended
+import ceph_package  # noqa: F401
+from pgpeer_ceph.nodes import Unusable
+from pgpeer_ceph.output import ended
 
 WORD = 2**32
 NONE = 2147483647  # an empty place, as crushtool prints it
@@ -342,7 +344,7 @@ def main():
     absent = [tool for tool in ("osdmaptool", "crushtool") if not shutil.which(tool)]
     if absent:
         parser.error(f"no {', '.join(absent)}; they are in Debian's ceph-base and ceph-osd")
-    return ended("compare_with_ceph", lambda: compare(options))
+    return ended(lambda: compare(options), "compare_with_ceph")
 
 
 def compare(options):

@@ -1,5 +1,6 @@
 #!/usr/bin/env bash
-# Installs the program, its man page, its completions for bash, zsh and fish, and the document of its lines with an example.
+# Installs the program and the command pgpeer-ceph, their man pages, their completions for bash, zsh and fish, and the document of
+# lines with an example.
 #
 #     tools/install.sh [--program FILE] PREFIX
 #     tools/install.sh --uninstall PREFIX
@@ -7,7 +8,8 @@
 # PREFIX is a folder, such as /usr/local or ~/.local. FILE is the built program: crates/pgpeer/out/pgpeer where nothing is
 # said, which is proved and built first by `rt run` if it isn't there. Where DESTDIR is set, it stands before PREFIX in the
 # name of each file, as makers of packages want it. A second call writes the same files again. --uninstall removes just these
-# files, and leaves the folders.
+# files, and leaves the folders. Needs Python 3.9 or later, for pgpeer-ceph, which is one file; PYTHON is how it calls Python,
+# `/usr/bin/env python3` where nothing is said.
 set -eu
 
 root=$(cd -- "$(dirname -- "${BASH_SOURCE[0]}")/.." && pwd)
@@ -24,10 +26,13 @@ usage() {
 # Calls $1 with the mode of each file, where it comes from, and where it goes.
 each_file() {
     "$1" 755 "$program" bin/pgpeer
-    "$1" 644 "$root/share/man/pgpeer.1" share/man/man1/pgpeer.1
-    "$1" 644 "$root/share/completions/pgpeer.bash" share/bash-completion/completions/pgpeer
-    "$1" 644 "$root/share/completions/_pgpeer" share/zsh/site-functions/_pgpeer
-    "$1" 644 "$root/share/completions/pgpeer.fish" share/fish/vendor_completions.d/pgpeer.fish
+    "$1" 755 "$command" bin/pgpeer-ceph
+    for name in pgpeer pgpeer-ceph; do
+        "$1" 644 "$root/share/man/$name.1" "share/man/man1/$name.1"
+        "$1" 644 "$root/share/completions/$name.bash" "share/bash-completion/completions/$name"
+        "$1" 644 "$root/share/completions/_$name" "share/zsh/site-functions/_$name"
+        "$1" 644 "$root/share/completions/$name.fish" "share/fish/vendor_completions.d/$name.fish"
+    done
     "$1" 644 "$root/docs/FORMAT.md" share/doc/pgpeer/FORMAT.md
     "$1" 644 "$root/examples/outage.jsonl" share/doc/pgpeer/examples/outage.jsonl
 }
@@ -51,7 +56,17 @@ build() {
     (cd -- "$root/crates/pgpeer" && rt run -- run </dev/null)
 }
 
+# Makes one file of the package of ceph/, in the folder $1.
+pack() {
+    command -v python3 >/dev/null || fail 1 "there is no python3"
+    mkdir -- "$1/pgpeer_ceph"
+    cp -- "$root"/ceph/pgpeer_ceph/*.py "$1/pgpeer_ceph"
+    rm -- "$1/pgpeer_ceph/__main__.py"
+    python3 -m zipapp "$1" --compress --main pgpeer_ceph.cli:main --python "${PYTHON:-/usr/bin/env python3}" --output "$2"
+}
+
 program=
+command=
 act=put
 while [ $# -gt 0 ]; do
     case $1 in
@@ -75,5 +90,10 @@ if [ "$act" = put ]; then
         [ -x "$program" ] || build
     fi
     [ -x "$program" ] || fail 1 "$program is no program"
+    parts=$(mktemp -d)
+    trap 'rm -rf -- "$parts"' EXIT
+    mkdir -- "$parts/tree"
+    command=$parts/pgpeer-ceph
+    pack "$parts/tree" "$command"
 fi
 each_file "$act"

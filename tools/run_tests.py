@@ -6,10 +6,11 @@
 In this order, each part with its count and its seconds:
 
   links of documents                what documents name is there: links, sections and files (check_links.py)
-  tests of tools/, fuzz/, follow/   unit tests in Python, except those that need the built program
+  tests of tools/, ceph/, fuzz/ and
+  follow/                           unit tests in Python, except those that need the built program
   gate                              `rt ci`, with as many checks at once as there are processors, where there are 5 GB of
                                     memory for each of them
-  tests of tools/, with the program all unit tests of tools/
+  the same, with the program        all unit tests of tools/ and ceph/
   examples                          each example and each line of docs/FORMAT.md has its answer (run_examples.py)
   statuses                          the program ends in each of its statuses (check_statuses.py)
   workers                           examples and stored scripts have the same bytes with workers (compare_workers.py)
@@ -171,6 +172,7 @@ def before_gate() -> List[Part]:
     return [
         Part("links of documents", python("tools/check_links.py"), 60, tried_and_wrong),
         Part("tests of tools/", tests_in("tools"), 900, unit_tests),
+        Part("tests of ceph/", tests_in("ceph"), 900, unit_tests),
         Part("tests of fuzz/", tests_in("fuzz"), 900, unit_tests),
         Part("tests of follow/", tests_in("follow"), 900, unit_tests),
     ]
@@ -196,6 +198,7 @@ def after_gate(seed: str) -> List[Part]:
     sweep = python("tools/refuse_allocations.py", PROGRAM)
     return [
         Part("tests of tools/, with the program", tests_in("tools"), 900, unit_tests, program=PROGRAM),
+        Part("tests of ceph/, with the program", tests_in("ceph"), 900, unit_tests, program=PROGRAM),
         Part("examples", python("tools/run_examples.py"), 300, tried_and_wrong),
         Part("statuses", python("tools/check_statuses.py"), 300, tried_and_wrong),
         Part("workers", python("tools/compare_workers.py", "--stored", "--seconds", 30), 400, compared_runs),

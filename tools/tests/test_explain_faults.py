@@ -4,15 +4,10 @@ import json
 import os
 import pathlib
 import subprocess
-import sys
 import unittest
 
-HERE = pathlib.Path(__file__).resolve().parent
-sys.path.insert(0, str(HERE.parent))
-
-import tell_groups  # noqa: E402
-
-PROGRAM = os.environ.get("PGPEER", str(tell_groups.PROGRAM))
+ROOT = pathlib.Path(__file__).resolve().parent.parent.parent
+PROGRAM = os.environ.get("PGPEER", str(ROOT / "crates/pgpeer/out/pgpeer"))
 HAS_PROGRAM = os.access(PROGRAM, os.X_OK)
 ABSENT = object()
 

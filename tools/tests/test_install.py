@@ -1,4 +1,4 @@
-"""Tests of install.sh and build_deb.sh, of the completions, and of the man page against what the program's help names."""
+"""Tests of install.sh and build_deb.sh, of the completions, and of the man pages against what the help of each names."""
 
 import os
 import pathlib
@@ -6,29 +6,42 @@ import re
 import shutil
 import stat
 import subprocess
+import sys
 import tempfile
 import unittest
 
 ROOT = pathlib.Path(__file__).resolve().parent.parent.parent
+sys.path.append(str(ROOT / "ceph"))
+
+from pgpeer_ceph.cli import command  # noqa: E402
+
 INSTALL = ROOT / "tools" / "install.sh"
 BUILD_DEB = ROOT / "tools" / "build_deb.sh"
 PAGE = ROOT / "share" / "man" / "pgpeer.1"
+PAGE_OF_CEPH = ROOT / "share" / "man" / "pgpeer-ceph.1"
 COMPLETIONS = ROOT / "share" / "completions"
 PROGRAM = os.environ.get("PGPEER", str(ROOT / "crates" / "pgpeer" / "out" / "pgpeer"))
 
 FAKE = '#!/bin/sh\necho "pgpeer 9.8.7"\n'
+COMMAND = ROOT / "ceph" / "pgpeer-ceph"
 FILES = {
     "bin/pgpeer": 0o755,
+    "bin/pgpeer-ceph": 0o755,
     "share/man/man1/pgpeer.1": 0o644,
     "share/bash-completion/completions/pgpeer": 0o644,
     "share/zsh/site-functions/_pgpeer": 0o644,
     "share/fish/vendor_completions.d/pgpeer.fish": 0o644,
+    "share/man/man1/pgpeer-ceph.1": 0o644,
+    "share/bash-completion/completions/pgpeer-ceph": 0o644,
+    "share/zsh/site-functions/_pgpeer-ceph": 0o644,
+    "share/fish/vendor_completions.d/pgpeer-ceph.fish": 0o644,
     "share/doc/pgpeer/FORMAT.md": 0o644,
     "share/doc/pgpeer/examples/outage.jsonl": 0o644,
 }
 OPTIONS = {"run": {"--shards", "--workers"}, "explain": {"--json", "--epoch-offset"}, "compact": set()}
 SUBCOMMANDS = {*OPTIONS, "help"}
 OPTION = re.compile(r"(?<![\w-])--[a-z][a-z-]*")
+VERBS = ("fetch", "script", "explain", "draw", "map")
 
 
 def files_in(folder):
@@ -36,9 +49,15 @@ def files_in(folder):
     return {str(it.relative_to(folder)): stat.S_IMODE(it.stat().st_mode) for it in folder.rglob("*") if it.is_file()}
 
 
-def page():
-    """The text of the man page, without the marks that hyphens have there."""
-    return PAGE.read_text().replace("\\-", "-")
+def page(path=PAGE):
+    """The text of a man page, without the marks that hyphens have there."""
+    return path.read_text().replace("\\-", "-")
+
+
+def options_of(verb):
+    """The options of a verb of pgpeer-ceph."""
+    verbs = next(it for it in command()._actions if isinstance(it.choices, dict))
+    return {option for it in verbs.choices[verb]._actions for option in it.option_strings if option.startswith("--")}
 
 
 class Room(unittest.TestCase):
@@ -64,6 +83,16 @@ class Install(Room):
         self.assertEqual(said.splitlines(), [f"{prefix}/{it}" for it in FILES])
         self.assertEqual((prefix / "bin/pgpeer").read_text(), FAKE)
         self.assertEqual((prefix / "share/man/man1/pgpeer.1").read_bytes(), PAGE.read_bytes())
+
+    def test_the_command_is_one_file_that_runs(self):
+        prefix = self.room / "prefix"
+        self.install("--program", self.fake, prefix)
+        for words in (["--version"], ["script", "--ask", ROOT / "ceph/tests/maps/outage"]):
+            ours, theirs = (subprocess.run([it, *words], capture_output=True) for it in (prefix / "bin/pgpeer-ceph", COMMAND))
+            self.assertEqual((ours.returncode, ours.stdout, ours.stderr), (0, theirs.stdout, theirs.stderr))
+        words, env = [prefix / "bin/pgpeer-ceph", "explain", ROOT / "examples/first.jsonl"], {**os.environ, "PGPEER": ""}
+        told = subprocess.run(words, env=env, capture_output=True, text=True)
+        self.assertIn("pgpeer gave an answer that is not JSON", told.stderr)  # the program beside it is asked
 
     def test_does_the_same_again(self):
         prefix = self.room / "prefix"
@@ -111,7 +140,9 @@ class Install(Room):
 # What the package has otherwise than the folder that install.sh fills
 IN_PACKAGE = {
     "share/man/man1/pgpeer.1": "share/man/man1/pgpeer.1.gz",
+    "share/man/man1/pgpeer-ceph.1": "share/man/man1/pgpeer-ceph.1.gz",
     "share/zsh/site-functions/_pgpeer": "share/zsh/vendor-completions/_pgpeer",
+    "share/zsh/site-functions/_pgpeer-ceph": "share/zsh/vendor-completions/_pgpeer-ceph",
 }
 ONLY_IN_PACKAGE = {"share/doc/pgpeer/changelog.gz": 0o644, "share/doc/pgpeer/copyright": 0o644}
 MAINTAINER = {"DEBFULLNAME": "A Name", "DEBEMAIL": "ops@example.org"}
@@ -144,6 +175,7 @@ class Package(Room):
         wanted = {IN_PACKAGE.get(name, name): mode for name, mode in FILES.items()}
         self.assertEqual(files_in(self.room / "out/usr"), {**wanted, **ONLY_IN_PACKAGE})
         self.assertEqual((self.room / "out/usr/bin/pgpeer").read_text(), FAKE)
+        self.assertTrue((self.room / "out/usr/bin/pgpeer-ceph").read_bytes().startswith(b"#!/usr/bin/python3\n"))
         control = (self.room / "out/DEBIAN/control").read_text()
         self.assertIn("\nVersion: 9.8.7\n", control)
         self.assertIn("\nMaintainer: A Name <ops@example.org>\n", control)
@@ -180,11 +212,12 @@ class Package(Room):
 
 @unittest.skipUnless(shutil.which("bash"), "bash isn't there")
 class BashCompletion(unittest.TestCase):
-    def completed(self, *words):
+    def completed(self, *words, name="pgpeer"):
         """What is offered for the last word of a command line."""
-        script = '. "$1"; shift; COMP_WORDS=("$@"); COMP_CWORD=$(($# - 1)); _pgpeer; printf "%s\\n" "${COMPREPLY[@]}"'
+        call = f"_{name.replace('-', '_')}"
+        script = f'. "$1"; shift; COMP_WORDS=("$@"); COMP_CWORD=$(($# - 1)); {call}; printf "%s\\n" "${{COMPREPLY[@]}}"'
         ran = subprocess.run(
-            ["bash", "-euc", script, "bash", COMPLETIONS / "pgpeer.bash", "pgpeer", *words],
+            ["bash", "-euc", script, "bash", COMPLETIONS / f"{name}.bash", name, *words],
             capture_output=True,
             text=True,
             check=True,
@@ -204,6 +237,12 @@ class BashCompletion(unittest.TestCase):
             self.assertEqual(self.completed(name, ""), options | {"--help"})
         self.assertEqual(self.completed("explain", "1.a", "--ep"), {"--epoch-offset"})
 
+    def test_offers_the_verbs_of_the_other_command_and_their_options(self):
+        self.assertEqual(self.completed("", name="pgpeer-ceph"), {*VERBS, "--help", "--version"})
+        for verb in VERBS:
+            self.assertEqual(self.completed(verb, "--", name="pgpeer-ceph"), options_of(verb), verb)
+        self.assertEqual(self.completed("fetch", "--from", "", name="pgpeer-ceph"), set())
+
     def test_offers_nothing_for_a_number(self):
         for words in (("run", "--shards", ""), ("run", "--workers", ""), ("explain", "--epoch-offset", "")):
             self.assertEqual(self.completed(*words), set())
@@ -219,10 +258,19 @@ class Completions(unittest.TestCase):
             for subcommand in SUBCOMMANDS:
                 self.assertIn(subcommand, text, name)
 
+    def test_of_the_other_command_name_the_same_words(self):
+        for name, spelled in (("pgpeer-ceph.bash", "--{}"), ("_pgpeer-ceph", "--{}"), ("pgpeer-ceph.fish", "-l {}")):
+            text = (COMPLETIONS / name).read_text()
+            for verb in VERBS:
+                self.assertIn(verb, text, name)
+                for option in options_of(verb):
+                    self.assertIn(spelled.format(option[2:]), text, (name, verb))
+
     def test_are_read_by_their_shells(self):
-        for shell, name in (("bash", "pgpeer.bash"), ("zsh", "_pgpeer"), ("fish", "pgpeer.fish")):
-            if shutil.which(shell):
-                subprocess.run([shell, "-n", COMPLETIONS / name], check=True)
+        for of in ("pgpeer", "pgpeer-ceph"):
+            for shell, name in (("bash", f"{of}.bash"), ("zsh", f"_{of}"), ("fish", f"{of}.fish")):
+                if shutil.which(shell):
+                    subprocess.run([shell, "-n", COMPLETIONS / name], check=True)
 
 
 class Page(unittest.TestCase):
@@ -232,15 +280,28 @@ class Page(unittest.TestCase):
             for option in options | {"--help", "--version"}:
                 self.assertRegex(page(), re.escape(option))
 
+    def test_names_each_verb_and_its_options(self):
+        text = page(PAGE_OF_CEPH)
+        for verb in VERBS:
+            part = text[text.index(f".SS pgpeer-ceph {verb} "):].split("\n.SS ")[0].split("\n.SH ")[0]
+            self.assertEqual(set(OPTION.findall(part)), options_of(verb) - {"--help"}, verb)
+        self.assertLessEqual({"--help", "--version"}, set(OPTION.findall(text)))
+
+    def test_of_the_other_command_is_of_its_version(self):
+        told = subprocess.run([COMMAND, "--version"], capture_output=True, text=True, check=True).stdout
+        self.assertIn(f'"{told.strip()}"', page(PAGE_OF_CEPH).splitlines()[0])
+
     @unittest.skipUnless(shutil.which("groff"), "groff isn't there")
     def test_is_laid_out_without_a_warning(self):
-        ran = subprocess.run(["groff", "-man", "-Tutf8", "-ww", "-z", PAGE], capture_output=True, text=True)
-        self.assertEqual((ran.returncode, ran.stderr), (0, ""))
+        for path in (PAGE, PAGE_OF_CEPH):
+            ran = subprocess.run(["groff", "-man", "-Tutf8", "-ww", "-z", path], capture_output=True, text=True)
+            self.assertEqual((ran.returncode, ran.stderr), (0, ""))
 
     @unittest.skipUnless(shutil.which("mandoc"), "mandoc isn't there")
     def test_passes_mandoc(self):
-        ran = subprocess.run(["mandoc", "-T", "lint", "-W", "warning", PAGE], capture_output=True, text=True)
-        self.assertEqual(ran.stdout + ran.stderr, "")
+        for path in (PAGE, PAGE_OF_CEPH):
+            ran = subprocess.run(["mandoc", "-T", "lint", "-W", "warning", path], capture_output=True, text=True)
+            self.assertEqual(ran.stdout + ran.stderr, "")
 
     @unittest.skipUnless(os.access(PROGRAM, os.X_OK), "no program")
     def test_names_what_help_names(self):

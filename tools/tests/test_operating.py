@@ -4,20 +4,14 @@ import os
 import pathlib
 import re
 import subprocess
-import sys
 import tempfile
 import unittest
 
-HERE = pathlib.Path(__file__).resolve().parent
-ROOT = HERE.parent.parent
-sys.path.insert(0, str(HERE.parent))
-
-from group_steps import PROGRAM as BUILT  # noqa: E402
-
-PROGRAM = os.environ.get("PGPEER", str(BUILT))
+ROOT = pathlib.Path(__file__).resolve().parent.parent.parent
+PROGRAM = os.environ.get("PGPEER", str(ROOT / "crates/pgpeer/out/pgpeer"))
 HAS_PROGRAM = os.access(PROGRAM, os.X_OK)
 PAGE = ROOT / "docs/OPERATING.md"
-FROM_CLUSTER = ("tools/from_ceph.py fetch outage", "tools/from_ceph.py history --output outage.jsonl outage")
+FROM_CLUSTER = ("pgpeer-ceph fetch outage", "pgpeer-ceph script --output outage.jsonl outage")
 STREAMS = {"prints": "stdout", "says on standard error": "stderr"}
 VERDICTS = ("NoPrimary", "Down", "Waiting", "Incomplete", "Short", "NeedLog", "NeedUpThru", "Serve")
 
@@ -41,7 +35,7 @@ def commands(text):
     """Each command of a page, with the stream and the text that it has to give, where one stands there."""
     parts = [*paragraphs(text), "", ""]
     for at, part in enumerate(parts):
-        if part.startswith(("    pgpeer ", "    tools/")):
+        if part.startswith(("    pgpeer ", "    pgpeer-ceph ")):
             stream = STREAMS.get(parts[at + 1])
             yield unindented(part).strip(), stream, unindented(parts[at + 2]) if stream else None
 
@@ -64,8 +58,8 @@ class Page(unittest.TestCase):
         self.assertLess(len(PAGE.read_text().split()), 1500)
 
     def test_commands_are_found_with_what_they_print(self):
-        found = list(commands("a\n\n    pgpeer explain\n\nprints\n\n    1\n\n      2\n\nb\n\n    tools/x\n\nc\n"))
-        self.assertEqual(found, [("pgpeer explain", "stdout", "1\n\n  2\n"), ("tools/x", None, None)])
+        found = list(commands("a\n\n    pgpeer explain\n\nprints\n\n    1\n\n      2\n\nb\n\n    pgpeer-ceph x\n\nc\n"))
+        self.assertEqual(found, [("pgpeer explain", "stdout", "1\n\n  2\n"), ("pgpeer-ceph x", None, None)])
 
 
 @unittest.skipUnless(HAS_PROGRAM, f"no program {PROGRAM}")
@@ -74,15 +68,14 @@ class Commands(unittest.TestCase):
         room = tempfile.TemporaryDirectory()
         self.addCleanup(room.cleanup)
         self.room = pathlib.Path(room.name)
-        for name in ("tools", "examples"):
+        for name in ("ceph", "examples"):
             (self.room / name).symlink_to(ROOT / name)
         (self.room / "bin").mkdir()
         (self.room / "bin/pgpeer").symlink_to(pathlib.Path(PROGRAM).resolve())
+        (self.room / "bin/pgpeer-ceph").symlink_to(ROOT / "ceph/pgpeer-ceph")
 
     def run_words(self, words):
-        if PROGRAM != str(BUILT):
-            words = words.replace("draw_group.py", f"draw_group.py --program {PROGRAM}")
-        env = {**os.environ, "PATH": f"{self.room}/bin:{os.environ['PATH']}"}
+        env = {**os.environ, "PGPEER": PROGRAM, "PATH": f"{self.room}/bin:{os.environ['PATH']}"}
         return subprocess.run(["bash", "-c", words], cwd=self.room, env=env, capture_output=True, text=True)
 
     def test_each_runs_and_prints_what_stands_there(self):

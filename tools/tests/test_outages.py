@@ -15,11 +15,11 @@ sys.path.insert(0, str(HERE.parent))
 import ceph_check_outages  # noqa: E402
 import ceph_compare  # noqa: E402
 import ceph_outages  # noqa: E402
-import tell_groups  # noqa: E402
-from ceph_map import Code  # noqa: E402
+from pgpeer_ceph import program  # noqa: E402
+from pgpeer_ceph.maps import Code  # noqa: E402
 
-KEPT = HERE / "maps/outages"
-PROGRAM = os.environ.get("PGPEER", str(tell_groups.PROGRAM))
+KEPT = HERE.parent.parent / "ceph/tests/maps/outages"
+PROGRAM = program.found()
 HAS_PROGRAM = os.access(PROGRAM, os.X_OK)
 WHOLE, CODED = ceph_compare.PoolCode(None), ceph_compare.PoolCode(Code(2))
 

@@ -59,7 +59,7 @@ exit {status}
 BUILT_C = 'mkdir -p "$2" && touch "$2/libpgpeer.so"'
 ON_C = 1 + 9  # the build of the library for C, and its checks
 FOLLOWED = 7600 + 14 + 5
-ALL = 412 + ON_C + 3 + 110 + 2 + 47 + 14 + 24 + 1060 + 1352 + 1022 + FOLLOWED + 2 * 153 + 2 * 261 + 2 * 100
+ALL = 412 + ON_C + 4 + 110 + 4 + 47 + 14 + 24 + 1060 + 1352 + 1022 + FOLLOWED + 2 * 153 + 2 * 261 + 2 * 100
 
 
 class WithTree(unittest.TestCase):
@@ -67,7 +67,7 @@ class WithTree(unittest.TestCase):
         room = tempfile.TemporaryDirectory()
         self.addCleanup(room.cleanup)
         self.root, self.bin = pathlib.Path(room.name) / "root", pathlib.Path(room.name) / "bin"
-        for folder in ("tools/tests", "fuzz/tests", "follow/tests"):
+        for folder in ("tools/tests", "ceph/tests", "fuzz/tests", "follow/tests"):
             (self.root / folder).mkdir(parents=True)
             self.unit_test(folder, 2)
         self.bin.mkdir()
@@ -142,7 +142,7 @@ class Runs(WithTree):
     def test_a_name_that_is_not_there_fails(self):
         self.stub("tools/check_links.py", "README.md:3: no file docs/GONE.md\n412 names, 1 wrong", 1)
         status, lines = self.run_all("--quick")
-        self.assertEqual((status, lines[-1]), (1, "414 passed, 1 failed"))
+        self.assertEqual((status, lines[-1]), (1, "415 passed, 1 failed"))
         self.assertIn("README.md:3: no file docs/GONE.md", lines)
 
     def test_a_failing_unit_test_fails_and_all_else_is_run(self):
@@ -154,7 +154,7 @@ class Runs(WithTree):
     def test_a_gate_that_fails_and_builds_no_program_fails(self):
         self.rt("echo 'rt: FAILED: pgp_map'", "108 passed, 2 failed", 1)
         status, lines = self.run_all()
-        self.assertEqual((status, lines[-1]), (1, "523 passed, 3 failed"))
+        self.assertEqual((status, lines[-1]), (1, "524 passed, 3 failed"))
         self.assertIn("tests on the program: 0 passed, 1 failed, since there is no crates/pgpeer/out/pgpeer", lines)
 
     def test_a_gate_that_ends_early_fails(self):
@@ -173,7 +173,7 @@ class Runs(WithTree):
         for name in SAYS:
             self.stub(name, "Traceback", 1)
         status, lines = self.run_all()
-        self.assertEqual((status, lines[-1]), (1, "116 passed, 17 failed"))
+        self.assertEqual((status, lines[-1]), (1, "119 passed, 17 failed"))
 
     def test_a_part_without_end_is_stopped(self):
         self.stub("tools/check_statuses.py", "", before="time.sleep(600)")
@@ -208,7 +208,7 @@ class Runs(WithTree):
 
     def test_the_parts_that_are_asked_for(self):
         status, lines = self.run_all("--quick")
-        self.assertEqual((status, len(lines), lines[-1]), (0, 5, "415 passed, 0 failed"))
+        self.assertEqual((status, len(lines), lines[-1]), (0, 6, "416 passed, 0 failed"))
         status, lines = self.run_all("--after-gate")
         self.assertEqual((status, lines[-1]), (1, "0 passed, 1 failed"))
         self.run_all()

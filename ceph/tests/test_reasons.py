@@ -1,4 +1,4 @@
-"""Tests of what draw_group.py shows of `pgpeer explain`."""
+"""Tests of what a picture shows of `pgpeer explain`."""
 
 import os
 import pathlib
@@ -7,15 +7,13 @@ import tempfile
 import unittest
 import xml.etree.ElementTree as xml
 
-HERE = pathlib.Path(__file__).resolve().parent
-ROOT = HERE.parent.parent
-sys.path.insert(0, str(HERE.parent))
-
-import draw_group  # noqa: E402
-import group_reasons  # noqa: E402
-from ceph_epochs import Epochs  # noqa: E402
-from ceph_json import Unusable  # noqa: E402
-from test_draw_group import HAS_PROGRAM, POOL, PROGRAM, SVG, marks, step, written  # noqa: E402
+from case import ROOT
+from test_picture import HAS_PROGRAM, POOL, PROGRAM, SVG, marks, step, written
+from pgpeer_ceph import picture as pictures, reasons as group_reasons
+from pgpeer_ceph.epochs import Epochs
+from pgpeer_ceph.marks import room_for
+from pgpeer_ceph.nodes import Unusable
+from pgpeer_ceph.steps import Group, followed
 
 BLOCKING = [{"first": 3, "last": 4, "down": [0, 1], "lacks": 1, "acting": [0, 1], "clean": None}]
 DOWN = "It waits for osd.0 and osd.1, which are down: writes may have been taken in epochs 3 to 4, and too few of those who took them are at hand."
@@ -31,7 +29,7 @@ def reasons(**more):
 
 
 def picture(steps, why, epochs=Epochs()):
-    return draw_group.Picture(draw_group.Group("1.0", POOL, steps, why=why), epochs)
+    return pictures.Picture(Group("1.0", POOL, steps, why=why), epochs)
 
 
 def words_of(root):
@@ -88,14 +86,14 @@ class Pictures(unittest.TestCase):
     def test_what_is_written_has_room(self):
         drawing = picture(self.STEPS, reasons())
         for words in drawing.head + drawing.foot:
-            self.assertLess(16 + draw_group.room_for(words), drawing.width)
-        self.assertLess(drawing.waits_y + draw_group.WAIT * len(drawing.waited), drawing.foot_y)
-        self.assertLess(drawing.foot_y + draw_group.WORDS * (len(drawing.foot) - 1) + 10, drawing.legend_y)
-        self.assertEqual(drawing.top, draw_group.TOP + draw_group.WORDS * (len(drawing.head) - 1))
+            self.assertLess(16 + room_for(words), drawing.width)
+        self.assertLess(drawing.waits_y + pictures.WAIT * len(drawing.waited), drawing.foot_y)
+        self.assertLess(drawing.foot_y + pictures.WORDS * (len(drawing.foot) - 1) + 10, drawing.legend_y)
+        self.assertEqual(drawing.top, pictures.TOP + pictures.WORDS * (len(drawing.head) - 1))
 
     def test_what_has_no_room_is_left_out(self):
         drawing = picture(self.STEPS, reasons(starts=ways(*((osd, osd + 1) for osd in range(100)))))
-        self.assertEqual(len(drawing.foot), draw_group.MOST_LINES)
+        self.assertEqual(len(drawing.foot), pictures.MOST_LINES)
         self.assertTrue(drawing.foot[-1].endswith("\u2026"))
 
     def test_nothing_stands_at_the_foot_of_a_group_that_serves(self):
@@ -169,14 +167,14 @@ class Examples(unittest.TestCase):
 
     def test_epochs_are_those_of_the_cluster(self):
         script = str(ROOT / "examples/ceph_outage.jsonl")
-        group, _ = draw_group.followed(PROGRAM, script, 1, 0, offset=15)
+        group, _ = followed(PROGRAM, script, 1, 0, offset=15)
         self.assertEqual([(it["first"], it["last"]) for it in group.why.blocking], [(20, 21)])
         status, out, _ = written(["--program", PROGRAM, script, "1.0"])
         self.assertIn("in epochs 20 to 21", " ".join(words_of(xml.fromstring(out))))
 
     def test_the_group_is_explained_at_the_last_epoch_that_is_drawn(self):
         script = str(ROOT / "examples/explain_down.jsonl")
-        self.assertEqual(draw_group.followed(PROGRAM, script, 1, 0, until=4)[0].why.verdict, "Serve")
+        self.assertEqual(followed(PROGRAM, script, 1, 0, until=4)[0].why.verdict, "Serve")
 
 
 if __name__ == "__main__":

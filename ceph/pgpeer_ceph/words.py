@@ -2,8 +2,8 @@
 
 from typing import Any, Dict, Iterable, Optional, Sequence
 
-from group_reasons import Reasons, together
-from group_steps import Pool, Step
+from .reasons import Reasons, together
+from .steps import Pool, Step
 
 
 def osds_text(osds: Iterable[int]) -> str:

@@ -3,7 +3,7 @@
 import itertools
 from typing import List, NamedTuple, Sequence, Set, Tuple
 
-from group_steps import Span, Step, View
+from .steps import Span, Step, View
 
 MOST_COLUMNS = 200
 

@@ -4,8 +4,9 @@ import collections
 import itertools
 from typing import Dict, Iterator, List, NamedTuple, Optional, Tuple
 
-from ceph_json import Node, Notes, Unusable, ranges
-from ceph_map import MOST_DEVICES, MOST_GROUPS_IN_ALL, Pool
+from .maps import MOST_DEVICES, MOST_GROUPS_IN_ALL, Pool
+from .nodes import Node, Unusable, ranges
+from .notes import Notes
 
 MOST_BUCKETS = 1024
 MOST_ITEMS = 256  # of one bucket

@@ -8,8 +8,9 @@ is taken for recorded in each epoch in which it may have been, so that no interv
 from dataclasses import dataclass, field
 from typing import Any, Callable, Dict, List, NamedTuple, Optional, Set, Tuple
 
-from ceph_json import Notes, Unusable, ranges
-from ceph_map import IN, MOST_DEVICES, Device, Group, Places, Pool
+from .maps import IN, MOST_DEVICES, Device, Group, Places, Pool
+from .nodes import Unusable, ranges
+from .notes import Notes
 
 MOST_EPOCHS = 60_000  # of a script, whose log has room for 65,535 entries
 

@@ -1,54 +1,34 @@
-"""Tests of from_ceph.py, on dumps that Ceph's tools printed."""
+"""Tests of the verb `map`, on dumps that Ceph's tools printed."""
 
-import contextlib
 import copy
-import io
 import json
 import os
-import pathlib
 import random
 import subprocess
-import sys
-import tempfile
 import unittest
 
-HERE = pathlib.Path(__file__).resolve().parent
-sys.path[:0] = [str(HERE.parent), str(HERE)]
-
-import ceph_map  # noqa: E402
-import check_against_ceph  # noqa: E402
-import from_ceph  # noqa: E402
-from changes import change  # noqa: E402
-
-MAPS = HERE / "maps"
-PROGRAM = os.environ.get("PGPEER", str(check_against_ceph.PROGRAM))
-HAS_PROGRAM = os.access(PROGRAM, os.X_OK)
+from broken import change
+from case import HAS_PROGRAM, MAPS, PROGRAM, TOOL, Room
+from case import written as written_by
+from pgpeer_ceph.maps import NONE, Code, local_groups
+from pgpeer_ceph.nodes import parsed
 
 
 def dump(name, kind):
-    return from_ceph.parsed((MAPS / f"{name}.{kind}.json").read_text(), name).value
+    return parsed((MAPS / f"{name}.{kind}.json").read_text(), name).value
 
 
 def written(words):
-    """The status of a call, and what it wrote to standard output and to standard error."""
-    out, err = io.StringIO(), io.StringIO()
-    with contextlib.redirect_stdout(out), contextlib.redirect_stderr(err):
-        try:
-            status = from_ceph.main(words)
-        except SystemExit as ended:
-            status = ended.code
-    return status, out.getvalue(), err.getvalue()
+    return written_by("map", *words)
 
 
-class Case(unittest.TestCase):
+class Case(Room):
     """A case with a real map that it may change before it is taken over."""
 
     name = "temps"
 
     def setUp(self):
-        folder = tempfile.TemporaryDirectory()
-        self.addCleanup(folder.cleanup)
-        self.folder = pathlib.Path(folder.name)
+        super().setUp()
         self.osdmap, self.crush = copy.deepcopy(dump(self.name, "osdmap")), copy.deepcopy(dump(self.name, "crush"))
 
     def file(self, name, value):
@@ -76,7 +56,7 @@ class Case(unittest.TestCase):
     def assert_error(self, text, status_and_texts):
         status, out, err = status_and_texts
         self.assertEqual((status, out), (2, ""))
-        self.assertTrue(err.splitlines()[-1].startswith("from_ceph: error: "), err)
+        self.assertTrue(err.splitlines()[-1].startswith("pgpeer-ceph: error: "), err)
         self.assertIn(text, err)
 
 
@@ -104,7 +84,7 @@ class Lines(Case):
 
     def test_empty_places_of_pg_temp_are_null(self):
         temp = next(entry for entry in self.osdmap["pg_temp"] if len(entry["osds"]) == 4)
-        temp["osds"][1] = from_ceph.NONE
+        temp["osds"][1] = NONE
         pool, pg = temp["pgid"].split(".")
         lists = {(it[0], it[1]): it[2] for it in self.lines()[-1]["temp"]}
         self.assertEqual(lists[int(pool), int(pg, 16)][1], None)
@@ -140,7 +120,7 @@ class Lines(Case):
         status, out, err = self.run_tool("--strict")
         self.assertEqual((status, out), (2, ""))
         self.assertEqual(len(err.splitlines()), 2)
-        self.assertIn("not carried: the map's history, and what members report of groups: tools/from_ceph.py fetch", err)
+        self.assertIn("not carried: the map's history, and what members report of groups: pgpeer-ceph fetch", err)
         self.assertEqual(self.run_tool()[0], 0)
 
     def test_text_before_a_dump_is_passed_over(self):
@@ -204,7 +184,7 @@ class LocalGroups(Case):
     def compared(self, k, m, length):
         """How many sets of chunks are enough for both, for the parts alone and for Ceph alone."""
         size = k + m + (k + m) // length
-        code = ceph_map.Code(k, ceph_map.local_groups(k, m, length, size))
+        code = Code(k, local_groups(k, m, length, size))
         self.assertEqual([slot for slots, _ in code.parts for slot in slots], list(range(size)))
         counts = {(True, True): 0, (True, False): 0, (False, True): 0, (False, False): 0}
         for bits in range(1 << size):
@@ -220,9 +200,9 @@ class LocalGroups(Case):
         self.assertEqual(self.compared(4, 2, 3), (25, 0, 30))
 
     def test_numbers_of_no_local_groups(self):
-        self.assertEqual(ceph_map.local_groups(4, 2, 3, 9), ())
-        self.assertEqual(ceph_map.local_groups(4, 2, 4, 8), ())
-        self.assertEqual(ceph_map.local_groups(2**30, 2**30, 2**30, 2**31 + 2), ())
+        self.assertEqual(local_groups(4, 2, 3, 9), ())
+        self.assertEqual(local_groups(4, 2, 4, 8), ())
+        self.assertEqual(local_groups(2**30, 2**30, 2**30, 2**31 + 2), ())
 
     @unittest.skipUnless(HAS_PROGRAM, f"no program {PROGRAM}")
     def test_the_program_takes_the_lines(self):
@@ -249,7 +229,7 @@ class NotCarried(Case):
         cause = "straw2 buckets, carried as list buckets of the same weights, so places differ"
         self.assertIn(f"{cause}: -9 'all', -1 'h0'", self.told())
         self.assertEqual({bucket["alg"] for bucket in self.lines()[0]["crush"]}, {"list"})
-        self.assertIn("groups lie as in Ceph with history --groups FILE", self.told())
+        self.assertIn("groups lie as in Ceph with script --groups FILE", self.told())
 
     def test_device_classes_and_the_tree_of_their_rule(self):
         self.osdmap, self.crush = dump("classes", "osdmap"), dump("classes", "crush")
@@ -372,18 +352,18 @@ class BadInput(Case):
         self.assert_error("b.json has no key 'osds'", written([crush, osdmap]))
 
     def test_standard_input_a_full_disk_and_a_closed_pipe(self):
-        tool, crush = str(HERE.parent / "from_ceph.py"), self.file("crush.json", self.crush)
-        words, text = [sys.executable, tool, "--alone", "-", crush], json.dumps(self.osdmap)
+        crush = self.file("crush.json", self.crush)
+        words, text = [*TOOL, "map", "--alone", "-", crush], json.dumps(self.osdmap)
         run = subprocess.run(words, input=text, capture_output=True, text=True)
         self.assertEqual((run.returncode, run.stdout, run.stderr), self.run_tool("--alone"))
         with open("/dev/full", "w") as full:
             run = subprocess.run(words, input=text, stdout=full, stderr=subprocess.PIPE, text=True)
-        self.assertEqual((run.returncode, run.stderr), (2, "from_ceph: error: writing: No space left on device\n"))
+        self.assertEqual((run.returncode, run.stderr), (2, "pgpeer-ceph: error: writing: No space left on device\n"))
         end, begin = os.pipe()
         os.close(end)
         run = subprocess.run(words, input=text, stdout=begin, stderr=subprocess.PIPE, text=True)
         os.close(begin)
-        self.assertEqual((run.returncode, run.stderr), (2, "from_ceph: error: writing: Broken pipe\n"))
+        self.assertEqual((run.returncode, run.stderr), (2, "pgpeer-ceph: error: writing: Broken pipe\n"))
 
     def test_output_to_a_pipe_and_through_a_link(self):
         words = ["--alone", self.file("osdmap.json", self.osdmap), self.file("crush.json", self.crush)]
@@ -400,20 +380,9 @@ class BadInput(Case):
         self.assertEqual(target.read_text(), whole)
 
     def test_a_command_line_without_a_file(self):
-        self.assert_error("required", written([]))
-
-
-@unittest.skipUnless(HAS_PROGRAM, f"no program {PROGRAM}")
-class Agreement(unittest.TestCase):
-    """The groups of each kept map lie where `osdmaptool` said, except those of straw2 buckets."""
-
-    def test_groups_agree_as_recorded(self):
-        recorded = json.loads((MAPS / "agreement.json").read_text())
-        for name, (same, other, left_out) in recorded.items():
-            with self.subTest(name), tempfile.TemporaryDirectory() as folder:
-                texts = ((MAPS / f"{name}.{kind}").read_text() for kind in ("osdmap.json", "crush.json", "groups.txt"))
-                row = check_against_ceph.compared(PROGRAM, name, check_against_ceph.Dumps(*texts), folder)
-                self.assertEqual((row.same, len(row.other), row.left_out), (same, other, left_out), row.other[:3])
+        status, out, err = written([])
+        self.assertEqual((status, out), (2, ""))
+        self.assertIn("pgpeer-ceph map: error: the following arguments are required: OSDMAP.json", err)
 
 
 if __name__ == "__main__":

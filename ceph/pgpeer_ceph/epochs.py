@@ -10,7 +10,7 @@ import json
 import os
 from typing import Iterable, NamedTuple, Optional, Tuple
 
-from ceph_json import Unusable, load
+from .nodes import Unusable, load
 
 
 class Epochs(NamedTuple):

@@ -8,8 +8,9 @@ of the acting sets.
 import re
 from typing import Dict, Iterator, List, NamedTuple, Optional, Tuple
 
-from ceph_json import Node, Notes, Unusable
-from ceph_map import MOST_PLACES, NONE, Group, Places, Pool, group_text, places_of, read_group, temp_fault
+from .maps import MOST_PLACES, NONE, Group, Places, Pool, group_text, places_of, read_group, temp_fault
+from .nodes import Node, Unusable
+from .notes import Notes
 
 SETS = re.compile(r"^(\d{1,9})\.([0-9a-f]{1,8}) raw .* up \(\[(.*?)\], p(-?\d+)\) acting \(\[(.*?)\], p(-?\d+)\)", re.MULTILINE)
 

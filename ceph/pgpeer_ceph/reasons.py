@@ -4,7 +4,7 @@ import json
 import subprocess
 from typing import Any, Dict, Iterable, List, NamedTuple
 
-from ceph_json import Unusable
+from .nodes import Unusable
 
 Set = List[int]  # devices that are enough together
 MOST_SPANS = 5  # runs of epochs that are named

@@ -1,4 +1,4 @@
-"""Fetches into a folder what `from_ceph.py history` reads, by the commands of Ceph."""
+"""The verb `fetch`: keeps in a folder what `script` reads, by the commands of Ceph."""
 
 import argparse
 import json
@@ -6,10 +6,10 @@ import os
 import shlex
 import shutil
 import subprocess
-import sys
-from typing import List, NamedTuple
+from typing import Any, List, NamedTuple
 
-from ceph_json import Node, Unusable, parsed, write
+from .nodes import Node, Unusable, parsed
+from .output import tell, write
 
 SECONDS = 30  # for one command
 MOST_QUERIES = 200
@@ -44,10 +44,6 @@ def printed(words: List[str]) -> str:
         lines = run.stderr.decode(errors="replace").strip().splitlines() or ["no word"]
         raise Unusable(f"`{shlex.join(words)}` ended with {run.returncode}: {lines[-1]}")
     return run.stdout.decode(errors="replace")
-
-
-def tell(text: str) -> None:
-    print(f"from_ceph: {text}", file=sys.stderr)
 
 
 def fetch_maps(ceph: Ceph, since: int, until: int) -> Node:
@@ -110,15 +106,7 @@ def fetch_queries(ceph: Ceph, osdmap: Node) -> None:
         tell(f"not carried: reports of {len(groups) - MOST_QUERIES} groups more (ceph tell PG query > PG.query.json)")
 
 
-def main(words: List[str]) -> int:
-    parser = argparse.ArgumentParser(prog="from_ceph fetch", description=(
-        "Keeps in a folder the map of each epoch that the monitor has, the trees, where groups lie, and what groups tell."))
-    parser.add_argument("folder", metavar="FOLDER", help="the folder, which is made where it isn't there")
-    parser.add_argument("--ceph", default="ceph", metavar="WORDS", help="how ceph is called, as 'ceph -c ceph.conf'")
-    parser.add_argument("--from", dest="since", type=int, default=0, metavar="EPOCH", help="the first epoch")
-    parser.add_argument("--to", dest="until", type=int, default=2**32 - 1, metavar="EPOCH", help="the last epoch")
-    parser.add_argument("--no-groups", action="store_true", help="don't keep where groups lie, for a tree of list buckets")
-    options = parser.parse_args(words)
+def run(options: argparse.Namespace) -> int:
     try:
         ceph = Ceph(shlex.split(options.ceph) or ["ceph"], options.folder)
     except ValueError as fault:
@@ -130,3 +118,14 @@ def main(words: List[str]) -> int:
         fetch_sets(ceph, epochs[0], epochs[-1])
     fetch_queries(ceph, last)
     return 0
+
+
+def add_to(verbs: Any) -> None:
+    parser = verbs.add_parser("fetch", help="keep a cluster's maps and reports in a folder", description=(
+        "Keeps in a folder the map of each epoch that the monitor has, the trees, where groups lie, and what groups tell."))
+    parser.add_argument("folder", metavar="FOLDER", help="the folder, which is made where it isn't there")
+    parser.add_argument("--ceph", default="ceph", metavar="WORDS", help="how ceph is called, as 'ceph -c ceph.conf'")
+    parser.add_argument("--from", dest="since", type=int, default=0, metavar="EPOCH", help="the first epoch")
+    parser.add_argument("--to", dest="until", type=int, default=2**32 - 1, metavar="EPOCH", help="the last epoch")
+    parser.add_argument("--no-groups", action="store_true", help="don't keep where groups lie, for a tree of list buckets")
+    parser.set_defaults(run=run)

@@ -1,16 +1,15 @@
-"""Tests of `from_ceph.py fetch`, with commands that print kept dumps in the place of Ceph's."""
+"""Tests of the verb `fetch`, with commands that print kept dumps in the place of Ceph's."""
 
 import json
 import os
 import pathlib
 import subprocess
 import sys
-import tempfile
 import unittest
 
-HERE = pathlib.Path(__file__).resolve().parent
-TOOL = HERE.parent / "from_ceph.py"
-STRAW2 = HERE / "maps/straw2-outage"
+from case import MAPS, TOOL, Room
+
+STRAW2 = MAPS / "straw2-outage"
 FAKE = """\
 #!{python}
 import pathlib, sys
@@ -33,11 +32,9 @@ else:
 """
 
 
-class Fetch(unittest.TestCase):
+class Fetch(Room):
     def setUp(self):
-        folder = tempfile.TemporaryDirectory()
-        self.addCleanup(folder.cleanup)
-        self.folder = pathlib.Path(folder.name)
+        super().setUp()
         (self.folder / "bin").mkdir()
 
     def commands(self, *names):
@@ -48,17 +45,17 @@ class Fetch(unittest.TestCase):
 
     def run_tool(self, *words):
         room = {**os.environ, "PATH": str(self.folder / "bin")}
-        return subprocess.run([sys.executable, TOOL, *map(str, words)], capture_output=True, text=True, env=room)
+        return subprocess.run([*TOOL, *map(str, words)], capture_output=True, text=True, env=room)
 
     def test_what_is_fetched_is_the_script_of_the_dumps(self):
         self.commands("ceph", "crushtool", "osdmaptool")
         run = self.run_tool("fetch", "--from", 60, self.folder / "out")
         self.assertEqual((run.returncode, run.stdout), (0, ""), run.stderr)
-        self.assertEqual(run.stderr, "from_ceph: not carried: reports of groups that gave no answer, as a group without a primary doesn't: 4.1\n")
+        self.assertEqual(run.stderr, "pgpeer-ceph: not carried: reports of groups that gave no answer, as a group without a primary doesn't: 4.1\n")
         names = {path.name for path in (self.folder / "out").iterdir()}
         wanted = {f"{epoch}.{kind}" for epoch in range(60, 65) for kind in ("osd.json", "groups.txt")} | {"60.crush.json"}
         self.assertEqual(names, wanted | {f"{pg}.query.json" for pg in ("3.0", "3.1", "3.2", "3.3", "4.0")})
-        run = self.run_tool("history", "--ask", self.folder / "out")
+        run = self.run_tool("script", "--ask", self.folder / "out")
         self.assertEqual(run.returncode, 0, run.stderr)
         self.assertEqual(sum(json.loads(line)["op"] == "ask" for line in run.stdout.splitlines()), 6)
 
@@ -71,10 +68,10 @@ class Fetch(unittest.TestCase):
 
     def test_faults_are_one_line(self):
         run = self.run_tool("fetch", self.folder / "out")
-        self.assertEqual((run.returncode, run.stderr), (2, "from_ceph: error: ceph: No such file or directory\n"))
+        self.assertEqual((run.returncode, run.stderr), (2, "pgpeer-ceph: error: ceph: No such file or directory\n"))
         self.commands("ceph")
         run = self.run_tool("fetch", "--from", 99, self.folder / "out")
-        self.assertEqual((run.returncode, run.stderr), (2, "from_ceph: error: the monitor has the maps of epochs 50 to 64\n"))
+        self.assertEqual((run.returncode, run.stderr), (2, "pgpeer-ceph: error: the monitor has the maps of epochs 50 to 64\n"))
         run = self.run_tool("fetch", "--ceph", "ceph -c '", self.folder / "out")
         self.assertEqual((run.returncode, len(run.stderr.splitlines())), (2, 1), run.stderr)
         (self.folder / "file").write_text("")

@@ -8,9 +8,10 @@ import re
 import urllib.parse
 from typing import Any, Dict, Iterator, List, NamedTuple, Optional, Tuple
 
-from ceph_epochs import Epochs
-from ceph_json import Node, Notes, Unusable
-from ceph_map import NONE, Group, Places, Pool, group_text, places_of, read_group
+from .epochs import Epochs
+from .maps import NONE, Group, Places, Pool, group_text, places_of, read_group
+from .nodes import Node, Unusable
+from .notes import Notes
 
 MOST_ENTRIES = 256  # of one line
 MOST_NAME = 255  # bytes

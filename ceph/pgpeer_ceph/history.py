@@ -2,14 +2,15 @@
 
 from typing import Any, Dict, Iterator, List, NamedTuple, Optional, Set, Tuple
 
-from ceph_epochs import Epochs, numbered
-from ceph_folder import Dumps, version_of
-from ceph_history import Change, Changes, Lawful, Line, Snapshot, earlier
-from ceph_json import MOST, Node, Notes, Unusable, compact, ranges
-from ceph_map import IN, Group, Places, Pool, Temp, group_text, read_devices, read_group, read_pools, read_temps, tell_map
-from ceph_query import (Info, Query, Version, entries_lines, info_line, infos_of_stats, read_log, read_query, tell_faults)
-from ceph_sets import Where, carried, dumped_sets, stats_of, up_alone
-from ceph_tree import Bucket, Crush, carried_tree, choice_of, pools_of_one_root, read_crush, tell_classes, within_all_groups
+from .changes import Change, Changes, Lawful, Line, Snapshot, earlier
+from .epochs import Epochs, numbered
+from .folder import Dumps, version_of
+from .maps import IN, Group, Places, Pool, Temp, group_text, read_devices, read_group, read_pools, read_temps, tell_map
+from .nodes import MOST, Node, Unusable, compact, ranges
+from .notes import Notes
+from .reports import (Info, Query, Version, entries_lines, info_line, infos_of_stats, read_log, read_query, tell_faults)
+from .sets import Where, carried, dumped_sets, stats_of, up_alone
+from .trees import Bucket, Crush, carried_tree, choice_of, pools_of_one_root, read_crush, tell_classes, within_all_groups
 
 LONGEST_LINE = 1048576  # bytes, without the line feed
 FEWER = ("intervals of lrc pools in which Ceph may have gone read-write on fewer chunks than the script wants, which it takes for "

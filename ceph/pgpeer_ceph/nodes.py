@@ -1,17 +1,11 @@
-"""Dumps of Ceph as values with their places, what can't be carried over, and how a tool ends.
-
-Whatever a dump holds, a tool ends with one line on standard error and status 2, never with a traceback.
-"""
+"""Dumps of Ceph as values with their places there, so that whatever a dump holds, a fault is one line that says where."""
 
 import json
 import math
-import os
 import sys
-import tempfile
-from typing import Any, Callable, Dict, Iterable, Iterator, List, Optional
+from typing import Any, Iterable, List
 
 MOST = 2**32 - 1  # of an epoch, a weight or the number of a version
-MOST_THINGS = 40  # told of one cause
 
 
 class Unusable(Exception):
@@ -75,27 +69,6 @@ class Node:
         return self.value
 
 
-class Notes:
-    """What can't be carried over: for each cause the things that it concerns."""
-
-    def __init__(self) -> None:
-        self.things: Dict[str, Dict[str, None]] = {}
-
-    def tell(self, cause: str, thing: str) -> None:
-        self.things.setdefault(cause, {}).setdefault(thing)
-
-    def lines(self) -> Iterator[str]:
-        for cause, things in self.things.items():
-            shown = list(things)[:MOST_THINGS]
-            more = f" and {len(things) - len(shown)} more" if len(things) > len(shown) else ""
-            yield one_line(f"{cause}: {', '.join(shown)}{more}")
-
-
-def one_line(text: str) -> str:
-    """The text without line feeds and other marks that a terminal would obey."""
-    return "".join(mark if mark.isprintable() else " " for mark in text)
-
-
 # Reading
 
 
@@ -143,60 +116,3 @@ def ranges(numbers: Iterable[int]) -> str:
 
 def compact(value: Any) -> str:
     return json.dumps(value, separators=(",", ":"))
-
-
-def write(text: str, path: Optional[str] = None) -> None:
-    """Writes to standard output, to a device or a pipe, or to a file, which is there whole or not at all."""
-    if path is None:
-        sys.stdout.write(text)
-        sys.stdout.flush()
-        return
-    if os.path.exists(path) and not os.path.isfile(path):
-        with open(path, "w", encoding="utf-8") as place:
-            place.write(text)
-        return
-    path = os.path.realpath(path)
-    folder = os.path.dirname(path)
-    handle, part = tempfile.mkstemp(prefix=".part-", dir=folder)
-    try:
-        with os.fdopen(handle, "w", encoding="utf-8") as file:
-            file.write(text)
-        os.chmod(part, 0o644)
-        os.replace(part, path)
-    except BaseException:
-        os.unlink(part)
-        raise
-
-
-def ended(tool: str, body: Callable[[], int]) -> int:
-    """The status of a tool. Each fault of its input or of a write is one line on standard error, and status 2."""
-    try:
-        return body()
-    except Unusable as fault:
-        return failed(tool, str(fault))
-    except OSError as fault:
-        where = f"{fault.filename}: " if fault.filename else "writing: "
-        drop_output()
-        return failed(tool, f"{where}{fault.strerror or fault}")
-    except (MemoryError, RecursionError) as fault:
-        return failed(tool, f"the input is too large ({type(fault).__name__})")
-    except KeyboardInterrupt:
-        return failed(tool, "interrupted")
-
-
-def failed(tool: str, text: str) -> int:
-    try:
-        print(f"{tool}: error: {one_line(text)}", file=sys.stderr)
-    except OSError:
-        pass  # there is nowhere left to say it
-    return 2
-
-
-def drop_output() -> None:
-    """Has what is still to be written to standard output go nowhere, so that the end of the process doesn't fail on it."""
-    try:
-        nowhere = os.open(os.devnull, os.O_WRONLY)
-        os.dup2(nowhere, sys.stdout.fileno())
-        os.close(nowhere)
-    except (OSError, ValueError):
-        pass  # standard output is no file, as in a test

@@ -1,12 +1,4 @@
-#!/usr/bin/env python3
-"""Draws what a script says of one group, as an SVG picture.
-
-    tools/draw_group.py [--program PATH] [--from EPOCH] [--to EPOCH] [--output PICTURE] SCRIPT POOL.PG > group.svg
-
-SCRIPT is a file of lines for pgpeer, or `-`, and POOL.PG the group as Ceph writes it, PG in hexadecimal. The program (by
-default crates/pgpeer/out/pgpeer) is asked after each entry that it takes. Lines of the script that ask are passed over; an
-entry that is refused is told on standard error and not drawn. Where the script has its epochs beside it
-(SCRIPT.epochs.json, or --epochs FILE), the picture's are Ceph's, and so are those of --from and --to.
+"""The picture of a group, as SVG.
 
 The picture has one column for each entry, from left to right, under the epoch of its map. At the top each device that was
 ever in up or acting has a row, with a bar where it stood in acting: its colour says whether the interval may have gone
@@ -16,29 +8,19 @@ stands what `pgpeer explain` says of the group after the last entry: why it does
 column's marks follow that too. Beyond 200 columns runs of entries that change nothing for the group are folded, and then the
 oldest, but never the intervals that block the group, the last that may have gone read-write, or (as many as have room) others
 whose members have to be heard.
-
-Status 0: the picture was written. Status 2: the command line or the script is wrong, the group isn't in its map, or a write
-failed; with --output there is no picture then.
 """
 
-import argparse
 import bisect
 import itertools
-import sys
 import textwrap
 from html import escape
 from typing import Any, Dict, Iterator, List, Optional, Tuple
 
-from ceph_epochs import Epochs, epochs_of
-from ceph_json import Unusable, ended, write
-from group_columns import Column, folded
-from group_steps import (MOST_EPOCH, PROGRAM, Event, Group, History, Pool, Span, Step, answers, followed, group_of, missing_group,
-                         read_script)
-from group_words import at_end, osds_text, reason
-from svg_marks import DARK, LETTERS, LIGHT, line, rect, room_for, style, text, triangle
-
-__all__ = ["Column", "DARK", "Event", "Group", "History", "LIGHT", "PROGRAM", "Picture", "Pool", "Span", "Step", "answers",
-           "folded", "followed", "main", "missing_group", "osds_text", "read_script", "room_for"]
+from .columns import folded
+from .epochs import Epochs
+from .marks import LETTERS, line, rect, room_for, style, text, triangle
+from .steps import Group, Span, Step
+from .words import at_end, reason
 
 LEFT, RIGHT, TOP = 84, 24, 66  # TOP with one line of words at the head
 ROW, BAR, WORDS = 26, 14, 18  # heights
@@ -328,47 +310,3 @@ def waited_by(step: Step) -> Dict[int, str]:
     """For which devices the group waits after a step, and how."""
     waits = {osd: "unheard" for osd, _ in step.unheard} if step.view["verdict"] == "Waiting" else {}
     return {**waits, **{osd: "blocks" for osd in step.view["blocked_by"]}}
-
-
-def script_epoch(epochs: Epochs, epoch: Optional[int], otherwise: int) -> int:
-    """The script's epoch for one that the command line names."""
-    if epoch is None:
-        return otherwise
-    if epoch < 0:
-        raise Unusable(f"there is no epoch {epoch}")
-    return epochs.in_script(epoch)
-
-
-def drawn(options: argparse.Namespace) -> str:
-    epochs = epochs_of(options.script, options.epochs)
-    since, until = script_epoch(epochs, options.since, 0), script_epoch(epochs, options.until, MOST_EPOCH)
-    group, refused = followed(options.program, options.script, *group_of(options.group), since, until, epochs.offset)
-    if epochs.offset < 0:
-        refused.append("the epochs in the sentences are the script's")
-    for told in refused:
-        print(f"draw_group: {told}", file=sys.stderr)
-    return Picture(group, epochs).svg()
-
-
-def main(words: Optional[List[str]] = None) -> int:
-    about, _, more = (__doc__ or "").split("\n\n", 2)
-    parser = argparse.ArgumentParser(prog="draw_group", description=about, epilog=more,
-                                     formatter_class=argparse.RawDescriptionHelpFormatter)
-    parser.add_argument("script", metavar="SCRIPT", help="a file of lines for pgpeer, or -")
-    parser.add_argument("group", metavar="POOL.PG", help="the group, PG in hexadecimal")
-    parser.add_argument("--program", default=str(PROGRAM), help="the built pgpeer")
-    parser.add_argument("--from", dest="since", type=int, metavar="EPOCH", help="the first epoch that is drawn")
-    parser.add_argument("--to", dest="until", type=int, metavar="EPOCH", help="the last epoch, at whose end the group is told")
-    parser.add_argument("--epochs", metavar="FILE", help="how the script's epochs and Ceph's go together")
-    parser.add_argument("--output", "-o", metavar="PICTURE", help="the picture's file, which is written whole or not at all")
-    options = parser.parse_args(words)
-
-    def body() -> int:
-        write(drawn(options), options.output)
-        return 0
-
-    return ended("draw_group", body)
-
-
-if __name__ == "__main__":
-    sys.exit(main())

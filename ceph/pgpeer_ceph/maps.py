@@ -3,7 +3,8 @@
 import re
 from typing import Iterable, List, NamedTuple, Optional, Set, Tuple
 
-from ceph_json import Node, Notes, Unusable
+from .nodes import Node, Unusable
+from .notes import Notes
 
 MOST_DEVICES = 4096
 MOST_POOLS = 255

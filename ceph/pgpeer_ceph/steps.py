@@ -2,16 +2,14 @@
 
 import bisect
 import json
-import pathlib
 import re
 import subprocess
 import tempfile
 from typing import Any, Dict, FrozenSet, Generator, Iterable, Iterator, List, NamedTuple, Optional, Set, Tuple, cast
 
-from ceph_json import Unusable, ranges, text_of
-from group_reasons import Reasons, explained
+from .nodes import Unusable, ranges, text_of
+from .reasons import Reasons, explained
 
-PROGRAM = pathlib.Path(__file__).resolve().parent.parent / "crates/pgpeer/out/pgpeer"
 ENTRIES = ("inc", "info", "entries", "close")
 MOST_EPOCH = 2**32 - 1
 

@@ -1,28 +1,21 @@
-"""Tests of draw_group.py."""
+"""Tests of pictures of groups."""
 
-import contextlib
-import io
 import json
 import os
 import pathlib
 import re
 import subprocess
-import sys
 import tempfile
 import unittest
 import xml.etree.ElementTree as xml
 
-HERE = pathlib.Path(__file__).resolve().parent
-ROOT = HERE.parent.parent
-sys.path.insert(0, str(HERE.parent))
+from case import HAS_PROGRAM, PROGRAM, ROOT, TOOL
+from case import written as written_by
+from pgpeer_ceph import marks as svg, picture as pictures
+from pgpeer_ceph.columns import MOST_COLUMNS, folded
+from pgpeer_ceph.steps import Group, History, Pool, Step, answers, followed, may_touch, without_intervals
 
-import draw_group  # noqa: E402
-import group_columns as draw_group_columns  # noqa: E402
-import group_steps  # noqa: E402
-
-PROGRAM = os.environ.get("PGPEER", str(draw_group.PROGRAM))
-HAS_PROGRAM = os.access(PROGRAM, os.X_OK)
-POOL = draw_group.Pool("replicated", None, 3, 2)
+POOL = Pool("replicated", None, 3, 2)
 SVG = "{http://www.w3.org/2000/svg}"
 
 
@@ -30,7 +23,7 @@ def step(epoch, first=1, acting=(0, 1, 2), verdict="Serve", blocked=(), unheard=
     """A step with such an answer."""
     primary = next((it for it in acting if it is not None), None)
     view = {"epoch": epoch, "first": first, "acting": list(acting), "up": list(acting), "acting_primary": primary, "verdict": verdict, "blocked_by": list(blocked), "intervals": list(intervals), "missing": [], "best": None}
-    return draw_group.Step(op, [], view, list(unheard))
+    return Step(op, [], view, list(unheard))
 
 
 def interval(first, last, acting, rw):
@@ -38,7 +31,7 @@ def interval(first, last, acting, rw):
 
 
 def picture(steps, pool=POOL):
-    return draw_group.Picture(draw_group.Group("1.0", pool, steps))
+    return pictures.Picture(Group("1.0", pool, steps))
 
 
 def drawn(steps, pool=POOL):
@@ -52,18 +45,12 @@ def marks(root, kind):
 
 def written(words):
     """The status of a call, and what it wrote to standard output and to standard error."""
-    out, err = io.StringIO(), io.StringIO()
-    with contextlib.redirect_stdout(out), contextlib.redirect_stderr(err):
-        try:
-            status = draw_group.main(words)
-        except SystemExit as ended:
-            status = ended.code
-    return status, out.getvalue(), err.getvalue()
+    return written_by("draw", *words)
 
 
 class Heard(unittest.TestCase):
     def history(self, *stamps):
-        history = draw_group.History(1, 0)
+        history = History(1, 0)
         history.take({"op": "inc", "epoch": 3, "up": [0, 1]})
         for stamp in stamps:
             history.take({"op": "info", "pg": [1, 0], "from": [0, 0], "stamp": stamp})
@@ -84,7 +71,7 @@ class Heard(unittest.TestCase):
         self.assertFalse(history.heard((0, 0), 3))
 
     def test_a_pool_has_the_size_that_was_given_last(self):
-        history = draw_group.History(2, 0)
+        history = History(2, 0)
         history.take({"op": "inc", "epoch": 1, "pools": [{"id": 2, "kind": "replicated", "size": 3, "min_size": 2}]})
         history.take({"op": "inc", "epoch": 2, "sizes": [[1, 5, 5], [2, 4, 1]]})
         self.assertEqual(history.made.text(), "replicated pool, size 4, min_size 1")
@@ -97,16 +84,16 @@ class Heard(unittest.TestCase):
 
 class Columns(unittest.TestCase):
     def test_few_steps_have_a_column_each(self):
-        self.assertEqual([len(it.steps) for it in draw_group.folded([step(e) for e in range(1, 201)])], [1] * 200)
+        self.assertEqual([len(it.steps) for it in folded([step(e) for e in range(1, 201)])], [1] * 200)
 
     def test_the_longest_run_is_folded_first(self):
         steps = [step(e, first=1 if e < 150 else 150) for e in range(1, 202)]
-        columns = draw_group.folded(steps)
+        columns = folded(steps)
         self.assertEqual([len(it.steps) for it in columns], [1, 148] + [1] * 52)
         self.assertFalse(any(it.is_mixed() for it in columns))
 
     def test_where_each_step_changes_the_oldest_are_folded(self):
-        columns = draw_group.folded([step(e, first=e) for e in range(1, 301)])
+        columns = folded([step(e, first=e) for e in range(1, 301)])
         self.assertEqual(len(columns), 200)
         self.assertEqual([len(it.steps) for it in columns[:2]], [101, 1])
         self.assertTrue(columns[0].is_mixed())
@@ -114,7 +101,7 @@ class Columns(unittest.TestCase):
     def test_no_step_is_lost(self):
         for change in (1, 2, 3, 7, 50):
             steps = [step(e, first=e // change) for e in range(1000)]
-            columns = draw_group.folded(steps)
+            columns = folded(steps)
             self.assertLessEqual(len(columns), 200)
             self.assertEqual([it for column in columns for it in column.steps], steps)
 
@@ -132,7 +119,7 @@ class NeverHidden(unittest.TestCase):
 
     def test_what_blocks_and_what_may_have_gone_read_write_last(self):
         drawing = picture(self.steps(0))
-        self.assertLessEqual(len(drawing.columns), draw_group_columns.MOST_COLUMNS)
+        self.assertLessEqual(len(drawing.columns), MOST_COLUMNS)
         shown = {span.first for span in drawing.spans if drawing.places[span.first]}
         self.assertIn(11, shown)
         self.assertIn(max(it["first"] for it in self.PAST if it["rw"]), shown)
@@ -153,14 +140,14 @@ class Touches(unittest.TestCase):
     def test_entries_that_may_change_something_for_a_group(self):
         for entry, wanted in (({"down": [4]}, True), ({"down": [5]}, False), ({"up_thru": [[4, 1]]}, True), ({"lost": [[6, 1]]}, False),
                               ({"weight": [[6, 1]]}, True), ({"temp": [[1, 0, [6]]]}, True), ({"temp": [[1, 1, [4]]]}, False), ({}, False)):
-            self.assertEqual(group_steps.may_touch({"op": "inc", "epoch": 2, **entry}, [1, 0], {4}), wanted, entry)
-        self.assertTrue(group_steps.may_touch({"op": "info", "pg": [1, 0]}, [1, 0], set()))
-        self.assertFalse(group_steps.may_touch({"op": "info", "pg": [1, 1]}, [1, 0], set()))
+            self.assertEqual(may_touch({"op": "inc", "epoch": 2, **entry}, [1, 0], {4}), wanted, entry)
+        self.assertTrue(may_touch({"op": "info", "pg": [1, 0]}, [1, 0], set()))
+        self.assertFalse(may_touch({"op": "info", "pg": [1, 1]}, [1, 0], set()))
 
     def test_an_answer_without_its_intervals(self):
         line = b'{"first":3,"intervals":[{"acting":[1]}],"les":0,"missing":[]}'
-        self.assertEqual(group_steps.without_intervals(line), b'{"first":3,"intervals":[],"les":0,"missing":[]}')
-        self.assertEqual(group_steps.without_intervals(b"{}"), b"{}")
+        self.assertEqual(without_intervals(line), b'{"first":3,"intervals":[],"les":0,"missing":[]}')
+        self.assertEqual(without_intervals(b"{}"), b"{}")
 
 
 class Bars(unittest.TestCase):
@@ -171,7 +158,7 @@ class Bars(unittest.TestCase):
         root = drawn(self.STEPS)
         bars = {kind: marks(root, kind) for kind in ("wrote", "idle", "now")}
         self.assertEqual({kind: len(found) for kind, found in bars.items()}, {"wrote": 3, "idle": 2, "now": 1})
-        self.assertEqual(float(bars["wrote"][0].get("x")), draw_group.LEFT + 0.5)
+        self.assertEqual(float(bars["wrote"][0].get("x")), pictures.LEFT + 0.5)
 
     def test_bars_follow_each_other(self):
         drawing = picture(self.STEPS)
@@ -182,18 +169,18 @@ class Bars(unittest.TestCase):
         self.assertEqual(tips, [f"osd.{osd} is down and may come back" for osd in (0, 1)])
 
     def test_who_has_to_be_heard_is_marked_while_the_group_waits(self):
-        self.assertEqual(draw_group.waited_by(step(1, verdict="Waiting", unheard=[(3, 0)])), {3: "unheard"})
-        self.assertEqual(draw_group.waited_by(step(1, verdict="NoPrimary", unheard=[(3, 0)])), {})
+        self.assertEqual(pictures.waited_by(step(1, verdict="Waiting", unheard=[(3, 0)])), {3: "unheard"})
+        self.assertEqual(pictures.waited_by(step(1, verdict="NoPrimary", unheard=[(3, 0)])), {})
 
     def test_shards_and_empty_places_are_told(self):
-        erasure = draw_group.Pool("erasure", 2, 3, 2)
+        erasure = Pool("erasure", 2, 3, 2)
         words = [node.text for node in drawn([step(1, acting=[4, None, 5])], erasure).iter(f"{SVG}text")]
         for text in ("0", "2", "no device", "erasure pool, size 3, min_size 2, any 2 shards are enough"):
             self.assertIn(text, words)
 
     def test_an_interval_by_a_report_alone_has_a_line_in_its_bars(self):
-        group = draw_group.Group("1.0", POOL, self.STEPS, frozenset({1}))
-        root = xml.fromstring(draw_group.Picture(group).svg())
+        group = Group("1.0", POOL, self.STEPS, frozenset({1}))
+        root = xml.fromstring(pictures.Picture(group).svg())
         lines = [node for node in root.iter(f"{SVG}rect") if node.get("class") == "on-wrote"]
         self.assertEqual(len(lines), 3 + 1)  # one is the legend's
         self.assertTrue(all(node.find(f"{SVG}title").text.endswith("may have gone read-write, as a report says that the group was clean in it")
@@ -202,23 +189,23 @@ class Bars(unittest.TestCase):
         self.assertFalse([node for node in drawn(self.STEPS).iter(f"{SVG}rect") if node.get("class") == "on-wrote"])
 
     def test_a_grouped_pool_is_drawn_by_place_and_its_parts_are_told(self):
-        grouped = draw_group.Pool("grouped", None, 3, 2, [[[0, 1], 1], [[2], 1]])
+        grouped = Pool("grouped", None, 3, 2, [[[0, 1], 1], [[2], 1]])
         words = [node.text for node in drawn([step(1, acting=[4, None, 5])], grouped).iter(f"{SVG}text")]
         for text in ("0", "2", "no device", "grouped pool, size 3, min_size 2, enough with 1 of shards 0-1 and shard 2"):
             self.assertIn(text, words)
         self.assertEqual([grouped.are_enough(slots) for slots in ([0], [1, 2], [0, 1], [])], [False, True, False, False])
 
     def test_a_grouped_pool_is_short_of_members_or_of_a_part(self):
-        grouped = draw_group.Pool("grouped", None, 4, 2, [[[0, 1], 1], [[2, 3], 1]])
+        grouped = Pool("grouped", None, 4, 2, [[[0, 1], 1], [[2, 3], 1]])
         for acting, why in (([4, 5, None, None], "the shards of the acting set aren't enough"), ([4, None, 5, None], "too few members")):
             tips = [node.text for node in drawn([step(1, acting=acting, verdict="Short")], grouped).iter(f"{SVG}title")]
             self.assertEqual(sum(tip.startswith("epoch 1, Short: ") and tip.endswith(why) for tip in tips), 1, tips)
 
     def test_a_pool_of_many_parts_is_told_as_far_as_there_is_room(self):
-        grouped = draw_group.Pool("grouped", None, 16, 16, [[[slot], 1] for slot in range(16)])
+        grouped = Pool("grouped", None, 16, 16, [[[slot], 1] for slot in range(16)])
         told = next(node.text for node in drawn([step(1)], grouped).iter(f"{SVG}text") if node.text.startswith("grouped pool"))
         self.assertTrue(told.endswith("\u2026"))
-        self.assertLess(draw_group.room_for(told), draw_group.LEAST_WIDTH - 100)
+        self.assertLess(svg.room_for(told), pictures.LEAST_WIDTH - 100)
 
     def test_the_oldest_columns_are_veiled_where_they_are_one(self):
         past = [interval(e, e, [0, 1, 2], False) for e in range(1, 300)]
@@ -237,14 +224,14 @@ class Bars(unittest.TestCase):
         for count in (3, 12, 60, 200):
             root = drawn([step(e, first=e) for e in range(1000, 1000 + count)])
             places = [(float(it.get("x")), it.text) for it in root.iter(f"{SVG}text") if it.get("class") == "small soft"]
-            ends = [x + draw_group.room_for(text, 10) for x, text in places]
+            ends = [x + svg.room_for(text, 10) for x, text in places]
             self.assertTrue(all(end < x for end, (x, _) in zip(ends, places[1:])))
 
     def test_the_colours_have_contrast(self):
-        for scheme in (draw_group.LIGHT, draw_group.DARK):
+        for scheme in (svg.LIGHT, svg.DARK):
             pairs = [("text", "page"), ("soft", "page"), ("text", "band")]
             pairs += [(f"on-{kind}", kind) for kind in ("wrote", "idle", "now")]
-            for ink, ground in pairs + [("on-verdict", verdict) for verdict in draw_group.LETTERS]:
+            for ink, ground in pairs + [("on-verdict", verdict) for verdict in svg.LETTERS]:
                 self.assertGreaterEqual(contrast(scheme[ink], scheme[ground]), 4.5, (ink, ground))
             for shape in ("wrote", "idle", "now-edge", "blocks", "unheard", "boots", "falls"):
                 self.assertGreaterEqual(contrast(scheme[shape], scheme["page"]), 3, shape)
@@ -275,7 +262,7 @@ class BadInput(unittest.TestCase):
     def assert_error(self, text, status_and_texts):
         status, out, err = status_and_texts
         self.assertEqual((status, out), (2, ""))
-        self.assertTrue(err.splitlines()[-1].startswith("draw_group: error: "), err)
+        self.assertTrue(err.splitlines()[-1].startswith("pgpeer-ceph: error: "), err)
         self.assertIn(text, err)
 
     def test_no_group(self):
@@ -307,22 +294,22 @@ class BadInput(unittest.TestCase):
     @unittest.skipUnless(HAS_PROGRAM, f"no program {PROGRAM}")
     def test_a_full_disk_a_closed_pipe_and_no_folder(self):
         script = ROOT / "examples/blocked.jsonl"
-        words = [sys.executable, HERE.parent / "draw_group.py", "--program", PROGRAM, script, "1.0"]
+        words = [*TOOL, "draw", "--program", PROGRAM, script, "1.0"]
         with open("/dev/full", "w") as full:
             run = subprocess.run(words, stdout=full, stderr=subprocess.PIPE, text=True)
-        self.assertEqual((run.returncode, run.stderr), (2, "draw_group: error: writing: No space left on device\n"))
+        self.assertEqual((run.returncode, run.stderr), (2, "pgpeer-ceph: error: writing: No space left on device\n"))
         end, begin = os.pipe()
         os.close(end)
         run = subprocess.run(words, stdout=begin, stderr=subprocess.PIPE, text=True)
         os.close(begin)
-        self.assertEqual((run.returncode, run.stderr), (2, "draw_group: error: writing: Broken pipe\n"))
+        self.assertEqual((run.returncode, run.stderr), (2, "pgpeer-ceph: error: writing: Broken pipe\n"))
         status, _, err = written(["--program", PROGRAM, "-o", str(self.folder / "none/x.svg"), str(script), "1.0"])
         self.assertEqual((status, len(err.splitlines())), (2, 1))
 
     @unittest.skipUnless(HAS_PROGRAM, f"no program {PROGRAM}")
     def test_a_script_from_standard_input_and_some_of_its_epochs(self):
         script = (ROOT / "examples/blocked.jsonl").read_text()
-        words = [sys.executable, HERE.parent / "draw_group.py", "--program", PROGRAM, "--from", "4", "--to", "7", "-", "1.0"]
+        words = [*TOOL, "draw", "--program", PROGRAM, "--from", "4", "--to", "7", "-", "1.0"]
         run = subprocess.run(words, input=script, capture_output=True, text=True)
         self.assertEqual((run.returncode, run.stderr), (0, ""))
         self.assertIn("At the end: Down. It waits for osd.0 and osd.1", run.stdout)
@@ -334,7 +321,7 @@ class BadInput(unittest.TestCase):
 @unittest.skipUnless(HAS_PROGRAM, f"no program {PROGRAM}")
 class Examples(unittest.TestCase):
     def group(self, name, pool, pg):
-        return draw_group.followed(PROGRAM, str(ROOT / f"examples/{name}.jsonl"), pool, pg)[0]
+        return followed(PROGRAM, str(ROOT / f"examples/{name}.jsonl"), pool, pg)[0]
 
     def test_a_group_waits_just_while_someone_is_unheard(self):
         for name, pool, pg in (("outage", 1, 0), ("blocked", 1, 0), ("lost_shard", 2, 3), ("reports", 1, 0), ("map", 1, 5),
@@ -364,7 +351,7 @@ class Examples(unittest.TestCase):
     def test_the_answers_beside_the_examples_are_the_programs(self):
         for name in ("blocked", "lost_shard", "ceph_outage", "clean", "grouped"):
             lines = (ROOT / f"examples/{name}.jsonl").read_text().splitlines()
-            said = draw_group.answers(PROGRAM, lines)
+            said = answers(PROGRAM, lines)
             kept = (ROOT / f"examples/{name}.answers.jsonl").read_text().splitlines()
             self.assertEqual(said, [json.loads(line) for line in kept])
 

@@ -9,9 +9,10 @@ import re
 from dataclasses import dataclass, field
 from typing import Dict, List, Optional, Tuple
 
-from ceph_json import Node, Notes, Unusable, parsed, text_of
-from ceph_map import Group
-from ceph_sets import Where, is_printed, printed_sets
+from .maps import Group
+from .nodes import Node, Unusable, parsed, text_of
+from .notes import Notes
+from .sets import Where, is_printed, printed_sets
 
 LOG_NAME = re.compile(r"(?:^|[^0-9])osd\.?(\d{1,4})[^0-9].*?(\d{1,3}\.[0-9a-f]{1,3})(?:s(\d{1,2}))?(?=[^0-9a-f]|$)")
 

@@ -1,66 +1,32 @@
-"""Tests of `from_ceph.py history` and tell_groups.py, on dumps of real clusters that were taken through outages."""
+"""Tests of the verbs `script` and `explain`, on dumps of real clusters that were taken through outages."""
 
-import contextlib
-import io
 import json
-import os
-import pathlib
 import random
 import shutil
-import sys
-import tempfile
 import unittest
 
-HERE = pathlib.Path(__file__).resolve().parent
-ROOT = HERE.parent.parent
-sys.path[:0] = [str(HERE.parent), str(HERE)]
+from broken import broken
+from case import HAS_PROGRAM, MAPS, PROGRAM, ROOT, Room, written
+from pgpeer_ceph import changes as changes_of_maps, epochs as epochs_of_scripts, nodes, reports, steps
+from pgpeer_ceph.folder import log_of, stem
+from pgpeer_ceph.maps import Device, Pool
+from pgpeer_ceph.notes import Notes
+from pgpeer_ceph.sets import dumped_sets, printed_sets
 
-import ceph_epochs  # noqa: E402
-import ceph_folder  # noqa: E402
-import ceph_history  # noqa: E402
-import ceph_json  # noqa: E402
-import ceph_query  # noqa: E402
-import ceph_sets  # noqa: E402
-import draw_group  # noqa: E402
-import from_ceph  # noqa: E402
-import group_steps  # noqa: E402
-import tell_groups  # noqa: E402
-from changes import broken  # noqa: E402
-from ceph_map import Device, Pool  # noqa: E402
-
-MAPS = HERE / "maps"
 OUTAGE, STRAW2, LOGGED = MAPS / "outage", MAPS / "straw2-outage", MAPS / "logged"
-PROGRAM = os.environ.get("PGPEER", str(tell_groups.PROGRAM))
-HAS_PROGRAM = os.access(PROGRAM, os.X_OK)
 
 
-def written(main, *words):
-    """The status of a call, and what it wrote to standard output and to standard error."""
-    out, err = io.StringIO(), io.StringIO()
-    with contextlib.redirect_stdout(out), contextlib.redirect_stderr(err):
-        try:
-            status = main([str(word) for word in words])
-        except SystemExit as ended:
-            status = ended.code
-    return status, out.getvalue(), err.getvalue()
-
-
-class Case(unittest.TestCase):
-    def setUp(self):
-        folder = tempfile.TemporaryDirectory()
-        self.addCleanup(folder.cleanup)
-        self.folder = pathlib.Path(folder.name)
-
+class Case(Room):
     def history(self, *words):
-        status, out, err = written(from_ceph.main, "history", *words)
+        status, out, err = written("script", *words)
         self.assertEqual(status, 0, err)
         return [json.loads(line) for line in out.splitlines()], err
 
     def told(self, *words):
-        """What tell_groups says of a history."""
+        """What `explain` says of a history."""
         script = self.folder / "script.jsonl"
         self.history("--output", script, *words)
-        status, out, err = written(tell_groups.main, "--program", PROGRAM, script, *self.groups)
+        status, out, err = written("explain", "--program", PROGRAM, script, *self.groups)
         self.assertEqual((status, err), (0, ""))
         return out
 
@@ -73,8 +39,8 @@ def incrementals(lines):
 
 def changes(old, new, notes=None):
     """The changes between maps of devices alone, given as epochs and devices."""
-    found = ceph_history.Changes(old[0], new[0], notes or ceph_json.Notes())
-    found.take(*(ceph_history.Snapshot(epoch, {it.id: it for it in devices}, {}, {}, {}, 1) for epoch, devices in (old, new)))
+    found = changes_of_maps.Changes(old[0], new[0], notes or Notes())
+    found.take(*(changes_of_maps.Snapshot(epoch, {it.id: it for it in devices}, {}, {}, {}, 1) for epoch, devices in (old, new)))
     return found
 
 
@@ -134,8 +100,7 @@ class Outage(Case):
 
     @unittest.skipUnless(HAS_PROGRAM, f"no program {PROGRAM}")
     def test_the_picture_has_epochs_of_ceph(self):
-        import draw_group
-        status, out, _ = written(draw_group.main, "--program", PROGRAM, ROOT / "examples/ceph_outage.jsonl", "1.0")
+        status, out, _ = written("draw", "--program", PROGRAM, ROOT / "examples/ceph_outage.jsonl", "1.0")
         self.assertEqual((status, out), (0, (ROOT / "docs/ceph_outage.svg").read_text()))
         self.assertIn("osd.0, epochs 20 to 21: may have gone read-write", out)
         self.assertIn(">17</text>", out)
@@ -146,7 +111,7 @@ class OwnSets(Case):
         lines, err = self.history(STRAW2)
         self.assertNotIn("straw2", err)
         self.assertIn("not carried: up sets beside Ceph's acting sets", err)
-        epochs = ceph_epochs.Epochs(50 - len(incrementals(lines)) + 14, 50)
+        epochs = epochs_of_scripts.Epochs(50 - len(incrementals(lines)) + 14, 50)
         up, temps = set(), {}
         for epoch, line in sorted(incrementals(lines).items()):
             self.assertNotIn("crush", line)
@@ -154,7 +119,7 @@ class OwnSets(Case):
             temps.update({(pool, pg): osds for pool, pg, osds in line.get("temp", [])})
             if epochs.in_ceph(epoch) is None or not (STRAW2 / f"{epochs.in_ceph(epoch)}.groups.txt").exists():
                 continue
-            sets = ceph_sets.printed_sets((STRAW2 / f"{epochs.in_ceph(epoch)}.groups.txt").read_text(), "")
+            sets = printed_sets((STRAW2 / f"{epochs.in_ceph(epoch)}.groups.txt").read_text(), "")
             for (pool, pg), where in sets.items():
                 acting = [osd if osd in up else None for osd in temps.get((pool, pg), [])]
                 acting = [osd for osd in acting if osd is not None] if pool == 3 else acting
@@ -173,8 +138,8 @@ class OwnSets(Case):
         for path in STRAW2.glob("*.groups.txt"):
             shutil.copy(path, self.folder)
         dump = json.loads((STRAW2 / "pgs.json").read_text())
-        sets = ceph_sets.dumped_sets(ceph_json.Node(dump, "pgs"))
-        printed = ceph_sets.printed_sets((STRAW2 / "64.groups.txt").read_text(), "")
+        sets = dumped_sets(nodes.Node(dump, "pgs"))
+        printed = printed_sets((STRAW2 / "64.groups.txt").read_text(), "")
         same = [group for group, where in sets.where.items() if where.acting == printed[group].acting]
         self.assertGreaterEqual(len(same), 2)
         self.assertTrue(all(since >= 44 for since in sets.since.values()))
@@ -210,7 +175,7 @@ class Reports(Case):
         self.assertIn("1.0 in epoch 25: Serve\n1.1 in epoch 25: NeedLog\n", text)
 
     def test_members_of_erasure_groups_have_their_shards(self):
-        query = ceph_query.read_query(ceph_json.load(str(STRAW2 / "4.0.query.json")))
+        query = reports.read_query(nodes.load(str(STRAW2 / "4.0.query.json")))
         self.assertEqual(query.infos[0].member, (3, 0))
         self.assertEqual(query.past[0].acting, [(0, 2), (1, 1)])
         self.assertEqual((query.blocked_by, query.probing), ([0, 1], [(3, 0)]))
@@ -218,21 +183,21 @@ class Reports(Case):
     def test_infos_of_pg_dump_are_those_of_clean_groups(self):
         pools = {3: Pool(3, "", 4, 3, 1, 0, None)}
         stat = {"pgid": "3.1", "state": "active+clean", "version": "50'7", "log_start": "40'2", "last_epoch_clean": 45, "reported_epoch": 52, "acting": [2, 0]}
-        infos = ceph_query.infos_of_stats(ceph_json.Node(stat, ""), pools)
+        infos = reports.infos_of_stats(nodes.Node(stat, ""), pools)
         self.assertEqual([(it.member, it.les, it.last_update, it.log_tail, it.stamp) for it in infos], [((2, 0), 45, (50, 7), (40, 2), 52), ((0, 0), 45, (50, 7), (40, 2), 52)])
         self.assertEqual([it.last_epoch_clean for it in infos], [45, 45])
-        self.assertEqual(ceph_query.infos_of_stats(ceph_json.Node({**stat, "state": "active+undersized"}, ""), pools), [])
+        self.assertEqual(reports.infos_of_stats(nodes.Node({**stat, "state": "active+undersized"}, ""), pools), [])
 
     def test_an_info_that_was_clean_after_its_stamp_is_left_out(self):
-        info = ceph_query.Info((3, 0), (0, 0), 9, 4, 4, 9, (4, 1), (0, 0), True)
-        pools, notes = {3: Pool(3, "", 4, 3, 1, 0, None)}, ceph_json.Notes()
-        self.assertTrue(ceph_query.tell_faults(info, pools, [0], 9, notes))
-        self.assertFalse(ceph_query.tell_faults(info._replace(last_epoch_clean=10), pools, [0], 9, notes))
+        info = reports.Info((3, 0), (0, 0), 9, 4, 4, 9, (4, 1), (0, 0), True)
+        pools, notes = {3: Pool(3, "", 4, 3, 1, 0, None)}, Notes()
+        self.assertTrue(reports.tell_faults(info, pools, [0], 9, notes))
+        self.assertFalse(reports.tell_faults(info._replace(last_epoch_clean=10), pools, [0], 9, notes))
         self.assertEqual(list(notes.lines()), ["reports whose versions or epochs can't be, left out: 3.0 of osd.0"])
 
     def test_names_of_objects(self):
         for text, name in (("1:104778fc:::obj2:head", "obj2"), ("1:0:::a%3ab%25:head", "a:b%"), ("1:0:n::a:head", "1:0:n::a:head"), ("1:0:::a:4", "1:0:::a:4")):
-            self.assertEqual(ceph_query.object_name(text), name)
+            self.assertEqual(reports.object_name(text), name)
 
     def test_a_report_later_than_the_last_map_is_told(self):
         err = self.history(OUTAGE / "a-healthy.osd.json", OUTAGE / "a-healthy.crush.json", OUTAGE / "b-osd2-down.query.json")[1]
@@ -259,7 +224,7 @@ class LocalGroups(Case):
 
 
 class Told(Case):
-    """What tell_groups says of past intervals: by a report alone, of a grouped pool, with lost devices."""
+    """What `explain` says of past intervals: by a report alone, of a grouped pool, with lost devices."""
 
     MAP = {"op": "inc", "epoch": 1, "up": [0, 1, 2], "weight": [[1, 0], [2, 0]], "crush": [{"id": -1, "type": 1, "alg": "uniform", "items": [0, 1, 2]}]}
     POOL = {"id": 1, "pg_num": 1, "kind": "replicated", "size": 3, "min_size": 2, "leaf": 0}
@@ -271,7 +236,7 @@ class Told(Case):
         return [made, *self.LATER, {**self.INFO, "last_epoch_clean": epoch}]
 
     def test_the_map_of_the_last_epoch_and_reports_are_told_apart(self):
-        history = group_steps.History(1, 0)
+        history = steps.History(1, 0)
         for line in self.lines(2):
             history.take(line)
         past = {"first": 1, "last": 2, "acting_primary": 0, "rw": True}
@@ -281,7 +246,7 @@ class Told(Case):
         self.assertEqual(history.by_report({"intervals": [{**past, "first": 2, "last": 3}]}), {2})
 
     def test_a_boot_within_the_interval_is_no_record_of_it(self):
-        history = group_steps.History(1, 0)
+        history = steps.History(1, 0)
         for line in ({"epoch": 2, "up": [0]}, {"epoch": 4, "down": [0]}, {"epoch": 5, "up": [0], "up_thru": [[0, 5]]}):
             history.take({"op": "inc", **line})
         past = {"first": 3, "last": 4, "acting_primary": 0, "rw": True}
@@ -293,7 +258,7 @@ class Told(Case):
         words = "    epochs 1 to 2 on osd.0 osd.1 osd.2"
         for epoch, wanted in ((2, f"{words}; only a report says so: the group was clean in it\n"), (3, "and matter: none\n")):
             script.write_text("".join(f"{json.dumps(line)}\n" for line in self.lines(epoch)))
-            status, out, err = written(tell_groups.main, "--program", PROGRAM, script, "1.0")
+            status, out, err = written("explain", "--program", PROGRAM, script, "1.0")
             self.assertEqual((status, err), (0, ""))
             self.assertIn(wanted, out)
 
@@ -304,14 +269,14 @@ class Told(Case):
         later = [{"op": "inc", "epoch": 2, "up_thru": [[0, 1]]}, {"op": "inc", "epoch": 3, "down": [1, 2], "temp": [[2, 0, [0, 3, 4]]]}]
         script = self.folder / "script.jsonl"
         script.write_text("".join(f"{json.dumps(line)}\n" for line in (made, *later)))
-        status, out, err = written(tell_groups.main, "--program", PROGRAM, script, "2.0")
+        status, out, err = written("explain", "--program", PROGRAM, script, "2.0")
         self.assertEqual((status, err), (0, ""))
         self.assertIn("2.0 in epoch 3: Down, blocked by osd.1 and osd.2\n", out)
         self.assertIn("    epochs 1 to 2 on osd.0 (shard 0) osd.1 (shard 1) osd.2 (shard 2); down: osd.1 and osd.2\n", out)
 
 
     def test_a_device_is_lost_in_earlier_intervals_until_it_boots_or_is_destroyed(self):
-        history = group_steps.History(1, 0)
+        history = steps.History(1, 0)
         for line, found in (({"up": [0]}, False), ({"down": [0]}, False), ({"lost": [[0, 3]]}, True), ({"up": [0]}, False),
                             ({"down": [0]}, True), ({"lost": [[0, 2]]}, False), ({"lost": [[0, 3]]}, True), ({"gone": [0]}, False)):
             history.take({"op": "inc", "epoch": len(history.boots) + 1, **line})
@@ -328,7 +293,7 @@ class Told(Case):
         script, wanted = self.folder / "script.jsonl", "    epochs 1 to 2 on osd.0 (shard 0) osd.1 (shard 1) osd.2 (shard 2)"
         for lost, more in (([], "; down: osd.1 and osd.2"), ([[1, 2]], ""), ([[1, 1]], "; down: osd.1 and osd.2")):
             script.write_text("".join(f"{json.dumps(line)}\n" for line in (*lines, {"op": "inc", "epoch": 6, "lost": lost})))
-            status, out, err = written(tell_groups.main, "--program", PROGRAM, script, "2.0")
+            status, out, err = written("explain", "--program", PROGRAM, script, "2.0")
             self.assertEqual((status, err), (0, ""))
             self.assertIn(f"{wanted}{more}\n", out)
             self.assertIn("    epochs 3 to 4 on osd.0 (shard 0) osd.2 (shard 2) osd.3 (shard 1); down: osd.2 and osd.3\n", out)
@@ -362,16 +327,16 @@ class FromMapToMap(unittest.TestCase):
         self.assertEqual({epoch: it.up_thru for epoch, it in found.by_epoch.items()}, {13: {1: 12}})
 
     def test_what_the_program_would_refuse_is_left_out(self):
-        lawful = ceph_history.Lawful({1}, {2}, {1: 7}, {}, ceph_json.Notes())
-        change = ceph_history.Change(up={1, 3}, down={2}, gone={1, 4}, up_thru={1: 6}, weight={3: 9, 8: 1}, lost={1: 3})
+        lawful = changes_of_maps.Lawful({1}, {2}, {1: 7}, {}, Notes())
+        change = changes_of_maps.Change(up={1, 3}, down={2}, gone={1, 4}, up_thru={1: 6}, weight={3: 9, 8: 1}, lost={1: 3})
         parts = {key: value for key, value in lawful.parts(change, 8, 8, lambda epoch: epoch).items() if value}
         self.assertEqual(parts, {"up": [3], "weight": [[3, 9]]})
-        later = lawful.parts(ceph_history.Change(up={8}), 9, 9, lambda epoch: epoch)
+        later = lawful.parts(changes_of_maps.Change(up={8}), 9, 9, lambda epoch: epoch)
         self.assertEqual(later["weight"], [[8, 1]])
 
     def test_too_many_epochs(self):
-        with self.assertRaisesRegex(ceph_json.Unusable, "--from EPOCH begins later"):
-            ceph_history.Changes(1, 10**6, ceph_json.Notes())
+        with self.assertRaisesRegex(nodes.Unusable, "--from EPOCH begins later"):
+            changes_of_maps.Changes(1, 10**6, Notes())
 
 
 class Pools(Case):
@@ -401,21 +366,21 @@ class Pools(Case):
 
 class Numbers(Case):
     def test_older_epochs_keep_their_order(self):
-        epochs = ceph_epochs.numbered(100, 3, [7, 40, 40, 0, 120, 99, 60])
+        epochs = epochs_of_scripts.numbered(100, 3, [7, 40, 40, 0, 120, 99, 60])
         self.assertEqual([epochs.in_script(it) for it in (0, 7, 40, 60, 99, 100, 103)], [0, 1, 2, 3, 4, 5, 8])
         self.assertEqual([epochs.in_ceph(it) for it in (0, 1, 4, 5, 8)], [0, 7, 99, 100, 103])
-        self.assertEqual(ceph_epochs.numbered(1, 1, []), ceph_epochs.Epochs(0, 1, ()))
+        self.assertEqual(epochs_of_scripts.numbered(1, 1, []), epochs_of_scripts.Epochs(0, 1, ()))
 
     def test_the_file_beside_a_script(self):
-        epochs = ceph_epochs.numbered(100, 3, [7])
+        epochs = epochs_of_scripts.numbered(100, 3, [7])
         path = self.folder / "s.epochs.json"
-        path.write_text(ceph_epochs.side_text(epochs))
-        self.assertEqual(ceph_epochs.epochs_of(str(self.folder / "s.jsonl")), epochs)
-        self.assertEqual(ceph_epochs.epochs_of(str(self.folder / "other.jsonl")), ceph_epochs.Epochs())
+        path.write_text(epochs_of_scripts.side_text(epochs))
+        self.assertEqual(epochs_of_scripts.epochs_of(str(self.folder / "s.jsonl")), epochs)
+        self.assertEqual(epochs_of_scripts.epochs_of(str(self.folder / "other.jsonl")), epochs_of_scripts.Epochs())
         for text in ("{}", '{"offset":9,"first":4}', '{"offset":2,"first":9,"older":[3,2]}', '{"offset":NaN,"first":1}', "[]"):
             path.write_text(text)
-            with self.assertRaises(ceph_json.Unusable):
-                ceph_epochs.epochs_of(str(self.folder / "s.jsonl"))
+            with self.assertRaises(nodes.Unusable):
+                epochs_of_scripts.epochs_of(str(self.folder / "s.jsonl"))
 
     def test_a_fresh_clusters_epochs_are_those_of_the_script(self):
         osdmap = json.loads((OUTAGE / "a-healthy.osd.json").read_text())
@@ -433,33 +398,33 @@ class BadInput(Case):
     def assert_error(self, text, ended):
         status, out, err = ended
         self.assertEqual((status, out), (2, ""), err)
-        self.assertTrue(err.splitlines()[-1].startswith("from_ceph: error: "), err)
+        self.assertTrue(err.splitlines()[-1].startswith("pgpeer-ceph: error: "), err)
         self.assertIn(text, err)
 
     def test_folders_without_a_map(self):
-        self.assert_error("no map, as", written(from_ceph.main, "history", self.folder))
-        self.assert_error("nowhere: No such file", written(from_ceph.main, "history", self.folder / "nowhere"))
+        self.assert_error("no map, as", written("script", self.folder))
+        self.assert_error("nowhere: No such file", written("script", self.folder / "nowhere"))
 
     def test_maps_of_two_clusters_and_two_maps_of_an_epoch(self):
-        self.assert_error("are maps of two clusters", written(from_ceph.main, "history", OUTAGE, STRAW2))
+        self.assert_error("are maps of two clusters", written("script", OUTAGE, STRAW2))
         osdmap = json.loads((OUTAGE / "a-healthy.osd.json").read_text())
         (self.folder / "x.osd.json").write_text(json.dumps({**osdmap, "flags": "noup"}))
-        self.assert_error("two maps of epoch 17", written(from_ceph.main, "history", OUTAGE, self.folder))
+        self.assert_error("two maps of epoch 17", written("script", OUTAGE, self.folder))
 
     def test_a_tree_of_no_epoch(self):
         for name in ("a", "b"):
             shutil.copy(OUTAGE / "a-healthy.crush.json", self.folder / f"{name}.json")
         files = self.folder / "a.json", self.folder / "b.json", OUTAGE / "a-healthy.osd.json", OUTAGE / "b-osd2-down.osd.json"
-        self.assert_error("of which epoch?", written(from_ceph.main, "history", *files))
+        self.assert_error("of which epoch?", written("script", *files))
 
     def test_strict(self):
-        status, out, err = written(from_ceph.main, "history", "--strict", OUTAGE)
+        status, out, err = written("script", "--strict", OUTAGE)
         self.assertEqual((status, out), (2, ""))
         self.assertIn("--strict was given", err)
 
     def test_a_pool_and_epochs_that_are_not_there(self):
-        self.assert_error("no pool 9", written(from_ceph.main, "history", "--pool", 9, OUTAGE))
-        self.assert_error("no map of the epochs", written(from_ceph.main, "history", "--from", 99, OUTAGE))
+        self.assert_error("no pool 9", written("script", "--pool", 9, OUTAGE))
+        self.assert_error("no map of the epochs", written("script", "--from", 99, OUTAGE))
 
     def test_a_file_that_is_no_dump_is_told(self):
         for path in OUTAGE.iterdir():
@@ -478,7 +443,7 @@ class BadInput(Case):
                 name = rng.choice(names)
                 text = (folder / name).read_text()
                 (room / name).write_bytes(broken(rng, text, (folder / rng.choice(names)).read_text()))
-                status, out, err = written(from_ceph.main, "history", "--ask", room)
+                status, out, err = written("script", "--ask", room)
                 self.assertIn(status, (0, 2), err)
                 if status == 2:
                     self.assertEqual(out, "")
@@ -492,8 +457,8 @@ class BadInput(Case):
         script = self.folder / "script.jsonl"
         for _ in range(30):
             script.write_bytes(broken(rng, whole, dump))
-            for main in (tell_groups.main, draw_group.main):
-                status, out, err = written(main, "--program", PROGRAM, script, "1.0")
+            for verb in ("explain", "draw"):
+                status, out, err = written(verb, "--program", PROGRAM, script, "1.0")
                 self.assertIn(status, (0, 2), err)
                 if status == 2:
                     self.assertEqual((out, err.count("error: ")), ("", 1), err)
@@ -501,9 +466,9 @@ class BadInput(Case):
 
 class FolderNames(unittest.TestCase):
     def test_folder_reader_names(self):
-        self.assertEqual(ceph_folder.log_of("x/osd.2-1.0.log.json"), (2, "1.0"))
-        self.assertEqual(ceph_folder.log_of("osd12.2.1fs3.log.json"), (12, "2.1fs3"))
-        self.assertEqual([ceph_folder.stem(it) for it in ("a.osd.json", "26.groups.txt", "26.json")], ["a", "26", "26"])
+        self.assertEqual(log_of("x/osd.2-1.0.log.json"), (2, "1.0"))
+        self.assertEqual(log_of("osd12.2.1fs3.log.json"), (12, "2.1fs3"))
+        self.assertEqual([stem(it) for it in ("a.osd.json", "26.groups.txt", "26.json")], ["a", "26", "26"])
 
 
 if __name__ == "__main__":

@@ -1,24 +1,23 @@
-#!/usr/bin/env python3
-"""Tells what a script says of its groups at its end, in the words and the epochs of Ceph.
-
-    tools/tell_groups.py [--program PATH] [--epochs FILE] SCRIPT [POOL.PG...]
-
-SCRIPT is a file of lines for pgpeer, or `-`; POOL.PG a group as Ceph writes it, PG in hexadecimal. Without a group each group
-of the script has one line, with groups each is told at length: where it lies, for whom it waits, and its past intervals that
-may have gone read-write. Epochs are Ceph's where the script has its epochs beside it (SCRIPT.epochs.json, or --epochs FILE).
-
-Status 0: the groups were told. Status 2: the command line or the script is wrong, or the group isn't in its map.
-"""
+"""The verb `explain`: what a script says of its groups at its end, in the words and the epochs of Ceph."""
 
 import argparse
 import json
-import sys
 from typing import Any, Dict, Iterator, List, NamedTuple, Optional, Set, Tuple
 
-from ceph_epochs import Epochs, epochs_of
-from ceph_json import ended, write
-from group_steps import PROGRAM, Entry, History, Member, Pool, View, answers, group_of, missing_group, read_script
-from group_words import member_text, osds_text
+from .epochs import Epochs, epochs_of
+from .output import tell, write
+from .program import option_of_program
+from .steps import Entry, History, Member, Pool, View, answers, group_of, missing_group, read_script
+from .words import member_text, osds_text
+
+ABOUT = """\
+Tells what a script says of its groups at its end, in the words and the epochs of Ceph. SCRIPT is a file of lines for pgpeer, or
+`-`; POOL.PG a group as Ceph writes it, PG in hexadecimal. Without a group each group of the script has one line, with groups each
+is told at length: where it lies, for whom it waits, and its past intervals that may have gone read-write. Epochs are Ceph's where
+the script has its epochs beside it (SCRIPT.epochs.json, or --epochs FILE).
+
+Status 0: the groups were told. Status 2: the command line or the script is wrong, or the group isn't in its map.
+"""
 
 
 def places_text(places: List[Optional[int]]) -> str:
@@ -104,7 +103,7 @@ def told_of(program: str, entries: List[Entry], groups: List[Tuple[int, int]]) -
     found = said[len(said) - len(groups) :] if groups else []
     for number, answer in enumerate(said[: len(entries)], 1):
         if "ok" not in answer:
-            print(f"tell_groups: entry {number} of the script was refused: {answer.get('refused')}", file=sys.stderr)
+            tell(f"entry {number} of the script was refused: {answer.get('refused')}")
     taken = [entry for (_, _, entry), answer in zip(entries, said) if "ok" in answer]
     return Told(taken, {group: view for group, view in zip(groups, found) if "ok" in view})
 
@@ -126,22 +125,16 @@ def groups_text(options: argparse.Namespace) -> str:
     return "".join(f"{line}\n" for line in lines)
 
 
-def main(words: Optional[List[str]] = None) -> int:
-    about, _, more = (__doc__ or "").split("\n\n", 2)
-    parser = argparse.ArgumentParser(prog="tell_groups", description=about, epilog=more,
-                                     formatter_class=argparse.RawDescriptionHelpFormatter)
+def run(options: argparse.Namespace) -> int:
+    write(groups_text(options))
+    return 0
+
+
+def add_to(verbs: Any) -> None:
+    parser = verbs.add_parser("explain", help="what a script says of its groups", description=ABOUT,
+                              formatter_class=argparse.RawDescriptionHelpFormatter)
     parser.add_argument("script", metavar="SCRIPT", help="a file of lines for pgpeer, or -")
     parser.add_argument("groups", metavar="POOL.PG", nargs="*", help="a group, PG in hexadecimal")
     parser.add_argument("--epochs", metavar="FILE", help="how the script's epochs and Ceph's go together")
-    parser.add_argument("--program", default=str(PROGRAM), help="the built pgpeer")
-    options = parser.parse_args(words)
-
-    def body() -> int:
-        write(groups_text(options))
-        return 0
-
-    return ended("tell_groups", body)
-
-
-if __name__ == "__main__":
-    sys.exit(main())
+    option_of_program(parser)
+    parser.set_defaults(run=run)

@@ -1,0 +1,46 @@
+"""What the verbs that write scripts have in common: their options, and how they end."""
+
+import argparse
+from typing import Callable
+
+from .epochs import side_path, side_text
+from .history import Script
+from .nodes import Unusable, compact
+from .notes import Notes
+from .output import tell, write
+
+# Causes of the map that play no part where acting sets are Ceph's.
+PLACING = ("primary affinities", "upmaps", "primary_temp")
+WHERE = "groups lie as in Ceph with script --groups FILE, of osdmaptool MAP --test-map-pgs-dump-all or ceph pg dump"
+
+
+def options_of_scripts(parser: argparse.ArgumentParser) -> None:
+    parser.add_argument("--pool", type=int, action="append", default=[], metavar="ID",
+                        help="carry this pool, and others only where they are named so too")
+    parser.add_argument("--ask", action="store_true", help="append a question for each group")
+    parser.add_argument("--strict", action="store_true", help="what can't be carried over is an error")
+    parser.add_argument("--output", "-o", metavar="SCRIPT", help="the script's file, beside which its epochs are kept")
+
+
+def is_misplaced(notes: Notes) -> bool:
+    """Tells whether groups may lie elsewhere than in Ceph."""
+    return any(" so places " in cause or cause.startswith((*PLACING, "the tree,")) for cause in notes.things)
+
+
+def finish(options: argparse.Namespace, make: Callable[[argparse.Namespace, Notes], Script]) -> int:
+    """Makes a script, tells what it lacks, and writes it."""
+    notes = Notes()
+    made = make(options, notes)
+    for told in notes.lines():
+        tell(f"not carried: {told}")
+    if is_misplaced(notes):
+        tell(WHERE)
+    if options.strict and notes.things:
+        raise Unusable("the map can't be carried over whole, and --strict was given")
+    text = "".join(f"{compact(line)}\n" for line in made.lines)
+    if options.output and made.epochs is not None:
+        write(side_text(made.epochs), side_path(options.output))
+    elif made.epochs is not None and made.epochs.offset:
+        tell(f"epochs: Ceph's are those of the script and {made.epochs.offset} more; --output SCRIPT keeps that beside the script")
+    write(text, options.output)
+    return 0

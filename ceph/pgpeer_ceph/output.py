@@ -1,0 +1,74 @@
+"""How the command writes, and how it ends: with one line on standard error and status 2 where something is wrong."""
+
+import os
+import sys
+import tempfile
+from typing import Callable, Optional
+
+from .nodes import Unusable
+from .notes import one_line
+
+COMMAND = "pgpeer-ceph"
+
+
+def write(text: str, path: Optional[str] = None) -> None:
+    """Writes to standard output, to a device or a pipe, or to a file, which is there whole or not at all."""
+    if path is None:
+        sys.stdout.write(text)
+        sys.stdout.flush()
+        return
+    if os.path.exists(path) and not os.path.isfile(path):
+        with open(path, "w", encoding="utf-8") as place:
+            place.write(text)
+        return
+    path = os.path.realpath(path)
+    folder = os.path.dirname(path)
+    handle, part = tempfile.mkstemp(prefix=".part-", dir=folder)
+    try:
+        with os.fdopen(handle, "w", encoding="utf-8") as file:
+            file.write(text)
+        os.chmod(part, 0o644)
+        os.replace(part, path)
+    except BaseException:
+        os.unlink(part)
+        raise
+
+
+def tell(text: str, tool: str = COMMAND) -> None:
+    """Says something on standard error, beside what is written; where that is closed, nowhere."""
+    if sys.stderr is not None:
+        print(f"{tool}: {one_line(text)}", file=sys.stderr)
+
+
+def ended(body: Callable[[], int], tool: str = COMMAND) -> int:
+    """The status of a tool. Each fault of its input or of a write is one line on standard error, and status 2."""
+    try:
+        return body()
+    except Unusable as fault:
+        return failed(tool, str(fault))
+    except OSError as fault:
+        where = f"{fault.filename}: " if fault.filename else "writing: "
+        drop_output()
+        return failed(tool, f"{where}{fault.strerror or fault}")
+    except (MemoryError, RecursionError) as fault:
+        return failed(tool, f"the input is too large ({type(fault).__name__})")
+    except KeyboardInterrupt:
+        return failed(tool, "interrupted")
+
+
+def failed(tool: str, text: str) -> int:
+    try:
+        tell(f"error: {text}", tool)
+    except OSError:
+        pass  # there is nowhere left to say it
+    return 2
+
+
+def drop_output() -> None:
+    """Has what is still to be written to standard output go nowhere, so that the end of the process doesn't fail on it."""
+    try:
+        nowhere = os.open(os.devnull, os.O_WRONLY)
+        os.dup2(nowhere, sys.stdout.fileno())
+        os.close(nowhere)
+    except (OSError, ValueError):
+        pass  # standard output is no file, as in a test

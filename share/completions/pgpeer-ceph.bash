@@ -1,0 +1,25 @@
+# Completion of pgpeer-ceph for bash: verbs, options and files.
+_pgpeer_ceph() {
+    local word=${COMP_WORDS[COMP_CWORD]} before=${COMP_WORDS[COMP_CWORD - 1]} choices
+    case $before in
+        --from | --to | --pool | --ceph) return ;;
+        --output | -o | --groups | --epochs | --program) mapfile -t COMPREPLY < <(compgen -f -- "$word"); return ;;
+    esac
+    if [[ $COMP_CWORD -eq 1 ]]; then
+        mapfile -t COMPREPLY < <(compgen -W "fetch script explain draw map --help --version" -- "$word")
+        return
+    fi
+    case ${COMP_WORDS[1]} in
+        fetch) choices="--ceph --from --to --no-groups --help" ;;
+        script) choices="--pool --ask --strict --output --groups --from --to --help" ;;
+        explain) choices="--epochs --program --help" ;;
+        draw) choices="--epochs --program --from --to --output --help" ;;
+        map) choices="--pool --ask --strict --output --alone --help" ;;
+    esac
+    if [[ $word == -* ]]; then
+        mapfile -t COMPREPLY < <(compgen -W "$choices" -- "$word")
+    else
+        mapfile -t COMPREPLY < <(compgen -f -- "$word")
+    fi
+}
+complete -o filenames -F _pgpeer_ceph pgpeer-ceph
