@@ -1,131 +1,181 @@
 """The verb `fetch`: keeps in a folder what `script` reads, by the commands of Ceph."""
 
 import argparse
-import json
-import os
-import shlex
-import shutil
-import subprocess
-from typing import Any, List, NamedTuple
+import concurrent.futures
+import time
+from typing import Any, Callable, Dict, Iterable, List, Optional
 
-from .nodes import Node, Unusable, parsed
-from .output import tell, write
+from .calls import NoAnswer, ceph_of
+from .fetched import FetchedMaps, Folder
+from .maps import group_text, named_group, read_group
+from .nodes import MOST, Node, Unusable
+from .notes import Notes
+from .output import tell
+from .progress import Progress
+from .sets import stats_of
 
-SECONDS = 30  # for one command
-MOST_QUERIES = 200
+QUERY_SECONDS, QUERY_TRIES = 15, 2
+SILENT = "reports of groups that gave no answer"
+UNASKED = "reports of groups that weren't asked before the time was up (--seconds)"
+LED_BY_NOBODY = "reports of groups without a primary, which nobody can give"
+ABOUT = """\
+Keeps in a folder what `script` reads: what `ceph pg dump` says, the queries of groups, those that aren't active first, the use of
+devices, and then maps, trees and where groups lie, up to the last epoch that a query names. It changes nothing in the cluster.
+Each file is written whole as it comes, and a second call goes on where the first one ended. What fails is tried again; what is
+lacking in the end is told, and kept in the folder for `script` to tell.
 
-
-class Ceph(NamedTuple):
-    """How `ceph` is called, and where its answers go."""
-
-    words: List[str]
-    folder: str
-
-    def text(self, *words: str) -> str:
-        """What `ceph` prints."""
-        return printed([*self.words, *words])
-
-    def value(self, *words: str) -> Node:
-        command = [*words, "--format", "json"]
-        return parsed(self.text(*command), f"`{shlex.join([*self.words, *command])}`")
-
-    def keep(self, name: str, text: str) -> None:
-        write(text, os.path.join(self.folder, name))
+Status 0: what there was is in the folder. Status 2: the command line is wrong, there is no command of Ceph's, no map was fetched,
+or a write failed.
+"""
 
 
-def printed(words: List[str]) -> str:
-    try:
-        run = subprocess.run(words, capture_output=True, stdin=subprocess.DEVNULL, timeout=SECONDS)
-    except OSError as fault:
-        raise Unusable(f"{words[0]}: {fault.strerror}") from fault
-    except subprocess.TimeoutExpired as fault:
-        raise Unusable(f"`{shlex.join(words)}` had no answer within {SECONDS} seconds") from fault
-    if run.returncode != 0:
-        lines = run.stderr.decode(errors="replace").strip().splitlines() or ["no word"]
-        raise Unusable(f"`{shlex.join(words)}` ended with {run.returncode}: {lines[-1]}")
-    return run.stdout.decode(errors="replace")
+class Fetch:
+    """A folder as it is filled from a cluster."""
 
+    def __init__(self, options: argparse.Namespace):
+        self.options, self.ceph, self.notes, self.progress = options, ceph_of(options.ceph), Notes(), Progress()
+        self.folder = Folder(options.folder)
+        self.wanted = [group_text(named_group(words)) for words in options.pg]
+        self.stats: Optional[Dict[str, Node]] = None
+        self.unasked: Dict[str, None] = {}
+        self.named = 0  # the last epoch that a query names
 
-def fetch_maps(ceph: Ceph, since: int, until: int) -> Node:
-    """Keeps the map of each epoch, and the trees; gives the last map."""
-    report = ceph.value("report")
-    first, last = (report.key(f"osdmap_{end}_committed").count() for end in ("first", "last"))
-    if since > last or until < first:
-        raise Unusable(f"the monitor has the maps of epochs {first} to {last}")
-    if since < first and since:
-        tell(f"not carried: maps before epoch {first}, which the monitor has no more")
-    versions, node = set(), report
-    for epoch in range(max(since, first, 1), min(until, last) + 1):
-        node = ceph.value("osd", "dump", str(epoch))
-        ceph.keep(f"{epoch}.osd.json", json.dumps(node.value))
-        version = node.count_of("crush_version")
-        if version not in versions:
-            versions.add(version)
-            fetch_tree(ceph, epoch, epoch == last)
-    return node
-
-
-def fetch_tree(ceph: Ceph, epoch: int, is_last: bool) -> None:
-    """Keeps the tree of an epoch."""
-    binary = os.path.join(ceph.folder, f".{epoch}.crush")
-    if shutil.which("crushtool"):
-        ceph.text("osd", "getcrushmap", str(epoch), "-o", binary)
-        ceph.keep(f"{epoch}.crush.json", printed(["crushtool", "-i", binary, "--dump"]))
-        os.unlink(binary)
-    elif is_last:
-        ceph.keep(f"{epoch}.crush.json", ceph.text("osd", "crush", "dump"))
-    else:
-        tell(f"not carried: the tree of epoch {epoch} (install crushtool, of Debian's ceph-base)")
-
-
-def fetch_sets(ceph: Ceph, since: int, until: int) -> None:
-    """Keeps where groups lie in each epoch, for trees that a script can't have."""
-    if not shutil.which("osdmaptool"):
-        tell("not carried: where groups lie in each epoch (install osdmaptool, of Debian's ceph-osd)")
-        return
-    binary = os.path.join(ceph.folder, ".map")
-    for epoch in range(since, until + 1):
-        ceph.text("osd", "getmap", str(epoch), "-o", binary)
-        ceph.keep(f"{epoch}.groups.txt", printed(["osdmaptool", binary, "--test-map-pgs-dump-all"]))
-    if since <= until:
-        os.unlink(binary)
-
-
-def fetch_queries(ceph: Ceph, osdmap: Node) -> None:
-    """Keeps the query of each group, as far as it is answered."""
-    groups = [f"{pool.key('pool').whole()}.{pg:x}" for pool in osdmap.key("pools").items() for pg in range(pool.key("pg_num").count())]
-    silent = []
-    for group in groups[:MOST_QUERIES]:
+    def run(self) -> None:
         try:
-            ceph.keep(f"{group}.query.json", ceph.text("--connect-timeout", "5", "tell", group, "query"))
-        except Unusable:
-            silent.append(group)
-    if silent:
-        tell(f"not carried: reports of groups that gave no answer, as a group without a primary doesn't: {', '.join(silent)}")
-    if len(groups) > MOST_QUERIES:
-        tell(f"not carried: reports of {len(groups) - MOST_QUERIES} groups more (ceph tell PG query > PG.query.json)")
+            self.fetch_groups()
+            self.fetch_value("df.json", "osd", "df", "tree")
+            maps = FetchedMaps(self.ceph, self.folder, self.notes, self.side_by_side)
+            maps.fetch(self.options.since, min(self.options.until, self.named or MOST))
+            maps.fetch_trees()
+            if not self.options.no_groups:
+                maps.fetch_sets()
+        finally:
+            self.progress.clear()
+            for group in self.unasked:
+                self.notes.tell(UNASKED, group)
+            self.folder.keep_notes(self.notes)
+
+    def side_by_side(self, what: str, act: Callable[[Any], Any], things: Iterable[Any]) -> List[Any]:
+        """Has so many jobs act on all things, and says how far they are."""
+        found, listed = [], list(things)
+        pool = concurrent.futures.ThreadPoolExecutor(self.options.jobs)
+        try:
+            for done, answer in enumerate(pool.map(act, listed), 1):
+                found.append(answer)
+                self.progress.show(f"{what}: {done:,} of {len(listed):,}")
+        finally:
+            pool.shutdown(cancel_futures=True)
+        return found
+
+    def fetch_value(self, name: str, *words: str) -> Optional[Node]:
+        """Keeps an answer under a name."""
+        self.progress.show(" ".join(words))
+        try:
+            node = self.ceph.value(*words)
+        except NoAnswer as fault:
+            self.notes.tell("answers of commands that failed", str(fault))
+            return None
+        self.folder.keep(name, node.value)
+        return node
+
+    # Groups
+
+    def fetch_groups(self) -> None:
+        """Keeps what the cluster says of all groups, and queries of those that are wanted, as far as time allows."""
+        dump = self.fetch_value("pgs.json", "pg", "dump")
+        end = time.monotonic() + self.options.seconds
+        if dump is not None:
+            self.stats = {group_text(read_group(stat.key("pgid"))): stat for stat in stats_of(dump)}
+        groups = self.groups()
+        self.unasked = dict.fromkeys(groups)
+        epochs = self.side_by_side("queries", lambda group: self.query(group, end), groups)
+        self.named = max(epochs, default=0)
+
+    def groups(self) -> List[str]:
+        """The groups to ask, those that aren't active first, then those that aren't clean."""
+        if self.stats is None:
+            return self.groups_of_map()
+        unknown = [group for group in self.wanted if group not in self.stats]
+        if unknown:
+            raise Unusable(f"the cluster has no group {unknown[0]}")
+        led = {group: stat.key("state").text().split("+") for group, stat in self.stats.items() if self.is_wanted(group)}
+        for group in [it for it in led if self.stats[it].key("acting_primary").whole() < 0]:
+            self.notes.tell(LED_BY_NOBODY, group)
+            del led[group]
+        return sorted(led, key=lambda group: ("active" in led[group], "clean" in led[group]))
+
+    def groups_of_map(self) -> List[str]:
+        """All groups that the map has, where there is nothing that tells their states."""
+        if self.wanted:
+            return self.wanted
+        try:
+            pools = self.ceph.value("osd", "dump").key("pools").items()
+        except NoAnswer:
+            return []
+        sizes = ((pool.key("pool").whole(), pool.key("pg_num").count()) for pool in pools)
+        names = (group_text((pool, pg)) for pool, count in sizes for pg in range(min(count, 1 << 16)))
+        return [group for group in names if self.is_wanted(group)]
+
+    def is_wanted(self, group: str) -> bool:
+        pools = self.options.pool
+        return group in self.wanted if self.wanted else not pools or int(group.split(".")[0]) in pools
+
+    def query(self, group: str, end: float) -> int:
+        """Keeps the query of a group, and gives its epoch; 0 where there is none."""
+        name = f"{group}.query.json"
+        node = self.folder.kept(name)
+        if node is None or not self.is_fresh(node, group):
+            if time.monotonic() > end:
+                return 0
+            try:
+                words = ("--connect-timeout", "5", "tell", group, "query")
+                node = self.ceph.value(*words, tries=QUERY_TRIES, seconds=QUERY_SECONDS)
+                epoch = node.key("epoch").count()
+            except Unusable as fault:
+                if not isinstance(fault, NoAnswer):
+                    raise
+                self.notes.tell(SILENT, group)
+                self.unasked.pop(group, None)
+                return 0
+            self.folder.keep(name, node.value)
+        epoch = node.count_of("epoch")
+        self.unasked.pop(group, None)
+        return epoch
+
+    def is_fresh(self, node: Node, group: str) -> bool:
+        """Tells whether a query that an earlier call kept still says what the cluster says of the group."""
+        stat = (self.stats or {}).get(group)
+        if stat is None:
+            return False
+        same = all(node.has(key) and node.key(key).value == stat.key(key).value for key in ("state", "up", "acting"))
+        return same and node.count_of("epoch") >= stat.count_of("mapping_epoch")
+
+
+# The verb
 
 
 def run(options: argparse.Namespace) -> int:
-    try:
-        ceph = Ceph(shlex.split(options.ceph) or ["ceph"], options.folder)
-    except ValueError as fault:
-        raise Unusable(f"--ceph '{options.ceph}': {fault}") from fault
-    os.makedirs(options.folder, exist_ok=True)
-    last = fetch_maps(ceph, options.since, options.until)
-    epochs = sorted(int(name.split(".")[0]) for name in os.listdir(options.folder) if name.endswith(".osd.json") and name[:1].isdigit())
-    if not options.no_groups:
-        fetch_sets(ceph, epochs[0], epochs[-1])
-    fetch_queries(ceph, last)
+    if options.jobs < 1 or options.seconds < 0:
+        raise Unusable("--jobs is at least 1, and --seconds at least 0")
+    task = Fetch(options)
+    task.run()
+    for told in task.notes.lines():
+        tell(f"not fetched: {told}")
+    if not task.folder.epochs():
+        raise Unusable(f"{options.folder}: no map was fetched")
     return 0
 
 
 def add_to(verbs: Any) -> None:
-    parser = verbs.add_parser("fetch", help="keep a cluster's maps and reports in a folder", description=(
-        "Keeps in a folder the map of each epoch that the monitor has, the trees, where groups lie, and what groups tell."))
+    parser = verbs.add_parser("fetch", help="keep a cluster's maps and reports in a folder", description=ABOUT,
+                              formatter_class=argparse.RawDescriptionHelpFormatter)
     parser.add_argument("folder", metavar="FOLDER", help="the folder, which is made where it isn't there")
-    parser.add_argument("--ceph", default="ceph", metavar="WORDS", help="how ceph is called, as 'ceph -c ceph.conf'")
+    parser.add_argument("--ceph", default="ceph", metavar="WORDS", help="how ceph is called, as 'cephadm shell -- ceph'")
+    parser.add_argument("--pg", action="append", default=[], metavar="PG", help="query this group, and others only where they are named")
+    parser.add_argument("--pool", type=int, action="append", default=[], metavar="ID", help="query groups of this pool alone")
+    parser.add_argument("--jobs", type=int, default=4, metavar="N", help="how many commands run side by side (4)")
+    parser.add_argument("--seconds", type=float, default=120, metavar="N", help="begin no query after so many seconds (120)")
     parser.add_argument("--from", dest="since", type=int, default=0, metavar="EPOCH", help="the first epoch")
-    parser.add_argument("--to", dest="until", type=int, default=2**32 - 1, metavar="EPOCH", help="the last epoch")
+    parser.add_argument("--to", dest="until", type=int, default=MOST, metavar="EPOCH", help="the last epoch")
     parser.add_argument("--no-groups", action="store_true", help="don't keep where groups lie, for a tree of list buckets")
     parser.set_defaults(run=run)

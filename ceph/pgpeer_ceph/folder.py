@@ -27,6 +27,7 @@ class Dumps:
     stats: List[Node] = field(default_factory=list)  # of `ceph pg dump`
     queries: List[Node] = field(default_factory=list)
     logs: List[Tuple[int, str, Node]] = field(default_factory=list)  # the device, the group with its shard
+    not_fetched: Notes = field(default_factory=Notes)  # what `fetch` told
 
 
 @dataclass
@@ -63,7 +64,8 @@ def stem(path: str) -> str:
 def kind_of(node: Node) -> str:
     """What a dump is, by its keys."""
     for kind, keys in (("map", ("epoch", "osds", "pools")), ("tree", ("buckets", "rules")), ("log", ("pg_log_t",)),
-                       ("query", ("info", "peer_info", "acting")), ("stats", ("pg_stats",)), ("stats", ("pg_map",))):
+                       ("query", ("info", "peer_info", "acting")), ("stats", ("pg_stats",)), ("stats", ("pg_map",)),
+                       ("use", ("nodes", "summary")), ("notes", ("not_fetched",))):
         if all(node.has(key) for key in keys):
             return kind
     return ""
@@ -113,8 +115,19 @@ def take_file(path: str, text: str, node: Node, kind: str, dumps: Dumps, loose: 
         dumps.queries.append(node)
     elif kind == "stats":
         dumps.stats.append(node)
-    else:
+    elif kind == "notes":
+        take_notes(node.key("not_fetched"), dumps.not_fetched)
+    elif kind == "log":
         dumps.logs.append((*log_of(path), node))
+
+
+def take_notes(node: Node, notes: Notes) -> None:
+    """Takes what `fetch` kept of what it couldn't fetch."""
+    if not isinstance(node.value, dict):
+        raise Unusable(f"{node.where} is no object")
+    for cause in node.value:
+        for thing in node.key(cause).items():
+            notes.tell(cause, thing.text())
 
 
 def add_map(path: str, node: Node, dumps: Dumps, loose: LooseFiles) -> None:

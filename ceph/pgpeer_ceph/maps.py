@@ -214,6 +214,14 @@ def read_group(text: Node) -> Group:
     return int(found[1]), int(found[2], 16)
 
 
+def named_group(words: str) -> Group:
+    """A pool and a group's number from the POOL.HEX of a command line."""
+    found = re.fullmatch(r"([0-9]{1,9})\.([0-9a-fA-F]{1,8})", words)
+    if not found:
+        raise Unusable(f"'{words}' is no group; groups are written POOL.PG, as 1.a")
+    return int(found[1]), int(found[2], 16)
+
+
 def group_text(group: Group) -> str:
     return f"{group[0]}.{group[1]:x}"
 

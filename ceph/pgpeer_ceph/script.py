@@ -22,6 +22,9 @@ then nothing was written.
 def whole_history(options: argparse.Namespace, notes: Notes) -> Script:
     """The script of all dumps. Where the tree can't be carried and groups were dumped, acting sets are Ceph's."""
     dumps = read_folder([*options.files, *options.groups], notes)
+    for cause, things in dumps.not_fetched.things.items():
+        for thing in things:
+            notes.tell(f"not fetched: {cause}", thing)
     wanted = Selection(options.pool, options.since, options.until, bool(options.groups), options.ask)
     if options.groups and not (dumps.sets or dumps.stats):
         raise Unusable(f"{' '.join(options.groups)}: no groups, as osdmaptool --test-map-pgs-dump-all prints them")

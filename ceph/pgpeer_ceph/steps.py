@@ -2,11 +2,11 @@
 
 import bisect
 import json
-import re
 import subprocess
 import tempfile
 from typing import Any, Dict, FrozenSet, Generator, Iterable, Iterator, List, NamedTuple, Optional, Set, Tuple, cast
 
+from .maps import named_group
 from .nodes import Unusable, ranges, text_of
 from .reasons import Reasons, explained
 
@@ -357,10 +357,7 @@ def steps_of(program: str, path: str, asked: AskedScript, group: List[int], sinc
 
 def group_of(words: str) -> Tuple[int, int]:
     """A pool and a group's number from POOL.PG."""
-    found = re.fullmatch(r"([0-9]{1,9})\.([0-9a-fA-F]{1,8})", words)
-    if not found:
-        raise Unusable(f"'{words}' is no group; groups are written POOL.PG, as 1.a")
-    pool, pg = int(found[1]), int(found[2], 16)
+    pool, pg = named_group(words)
     if not (1 <= pool <= 255 and pg <= 1023):
         raise Unusable(f"there can be no group '{words}'")
     return pool, pg

@@ -2,7 +2,7 @@
 _pgpeer_ceph() {
     local word=${COMP_WORDS[COMP_CWORD]} before=${COMP_WORDS[COMP_CWORD - 1]} choices
     case $before in
-        --from | --to | --pool | --ceph) return ;;
+        --from | --to | --pool | --pg | --jobs | --seconds | --ceph) return ;;
         --output | -o | --groups | --epochs | --program) mapfile -t COMPREPLY < <(compgen -f -- "$word"); return ;;
     esac
     if [[ $COMP_CWORD -eq 1 ]]; then
@@ -10,7 +10,7 @@ _pgpeer_ceph() {
         return
     fi
     case ${COMP_WORDS[1]} in
-        fetch) choices="--ceph --from --to --no-groups --help" ;;
+        fetch) choices="--ceph --pg --pool --jobs --seconds --from --to --no-groups --help" ;;
         script) choices="--pool --ask --strict --output --groups --from --to --help" ;;
         explain) choices="--epochs --program --help" ;;
         draw) choices="--epochs --program --from --to --output --help" ;;
