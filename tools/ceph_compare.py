@@ -10,13 +10,14 @@ from typing import Any, Counter, Dict, Iterator, List, NamedTuple, Optional, Set
 import ceph_package  # noqa: F401
 from ceph_outages import Record, StepRecord
 from pgpeer_ceph.folder import Dumps, version_of
-from pgpeer_ceph.history import Selection, history
+from pgpeer_ceph.history import history
 from pgpeer_ceph.maps import ERASURE, Code, Group, code_of, group_text
 from pgpeer_ceph.nodes import Node, compact
 from pgpeer_ceph.notes import Notes
 from pgpeer_ceph.reports import MOST_ENTRIES, Line, Member, Query, read_query
 from pgpeer_ceph.sets import Where, printed_sets
 from pgpeer_ceph.steps import View, answers
+from pgpeer_ceph.story import Selection
 
 Interval = Tuple[int, int, Tuple[Member, ...]]
 

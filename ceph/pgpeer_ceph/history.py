@@ -2,31 +2,18 @@
 
 from typing import Any, Dict, Iterator, List, NamedTuple, Optional, Set, Tuple
 
-from .changes import Change, Changes, Lawful, Line, Snapshot, earlier
+from .changes import Change, Changes, Lawful, Line, earlier
 from .epochs import Epochs, numbered
-from .folder import Dumps, version_of
-from .maps import IN, Group, Places, Pool, Temp, group_text, read_devices, read_group, read_pools, read_temps, tell_map
-from .nodes import MOST, Node, Unusable, compact, ranges
+from .folder import Dumps
+from .maps import IN, Group, Places, Pool, Temp, group_text
+from .nodes import compact, ranges
 from .notes import Notes
-from .reports import (Info, Query, Version, entries_lines, info_line, infos_of_stats, read_log, read_query, tell_faults)
-from .sets import Where, carried, dumped_sets, stats_of, up_alone
-from .trees import Bucket, Crush, carried_tree, choice_of, pools_of_one_root, read_crush, tell_classes, within_all_groups
+from .reports import Info, entries_lines, info_line
+from .sets import carried, up_alone
+from .story import Selection, Story
+from .trees import Bucket, Crush, carried_tree, choice_of, pools_of_one_root
 
 LONGEST_LINE = 1048576  # bytes, without the line feed
-FEWER = ("intervals of lrc pools in which Ceph may have gone read-write on fewer chunks than the script wants, which it takes for "
-         "intervals without writes")
-
-Log = List[Tuple[Version, str, str]]
-
-
-class Selection(NamedTuple):
-    """What of a cluster is wanted."""
-
-    pools: List[int]  # all where it is empty
-    since: int = 0  # the first epoch, or 0
-    until: int = MOST
-    own_sets: bool = False  # acting sets are those that Ceph printed
-    ask: bool = False
 
 
 class Script(NamedTuple):
@@ -65,112 +52,6 @@ def pool_parts(pools: List[Pool], temps: List[Temp], leaves: Dict[int, int]) -> 
 def incremental(epoch: int, part: Line) -> Line:
     version = {"v": 2} if any(pool["kind"] == "grouped" for pool in part.get("pools", ())) else {}
     return {"op": "inc", **version, "epoch": epoch, **{key: value for key, value in part.items() if value}}
-
-
-# What the dumps say
-
-
-class Story:
-    """A cluster's history, as its dumps tell it."""
-
-    def __init__(self, dumps: Dumps, wanted: Selection, notes: Notes):
-        self.dumps, self.wanted, self.notes = dumps, wanted, notes
-        maps = {epoch: node for epoch, node in sorted(dumps.maps.items()) if wanted.since <= epoch <= wanted.until}
-        if not maps:
-            raise Unusable("there is no map of the epochs that are wanted")
-        self.latest = max(maps)
-        self.crush = self.read_trees()
-        self.snapshots = [self.snapshot(epoch, node) for epoch, node in maps.items()]
-        self.pools = {pool.id: pool for snapshot in self.snapshots for pool in snapshot.pools.values()}
-        self.queries = [query for query in map(read_query, dumps.queries) if query.group[0] in self.pools]
-        self.tell_fewer()
-        self.sets = self.read_sets() if wanted.own_sets else {}
-        self.first = self.first_epoch()
-
-    def read_trees(self) -> Dict[int, Crush]:
-        trees = {version: read_crush(node, self.notes) for version, node in sorted(self.dumps.trees.items())}
-        for node in list(self.dumps.trees.values())[-1:]:
-            tell_classes(node, self.notes)
-        return trees
-
-    def snapshot(self, epoch: int, node: Node) -> Snapshot:
-        pools = [pool for pool in read_pools(node, self.notes) if not self.wanted.pools or pool.id in self.wanted.pools]
-        pools = within_all_groups(pools, self.notes)
-        devices = {device.id: device for device in read_devices(node, self.notes)}
-        temps = {(temp.pool, temp.pg): temp.osds for temp in read_temps(node, pools, self.notes)}
-        changed = {it.key("pool").whole(): it.count_of("last_change") for it in node.key("pools").items()}
-        tell_map(node, {pool.id for pool in pools}, self.notes)
-        return Snapshot(epoch, devices, {pool.id: pool for pool in pools}, changed, temps, version_of(node))
-
-    def tell_fewer(self) -> None:
-        """Tells of intervals that queries list, whose acting sets aren't enough for the parts of a code."""
-        for query in self.queries:
-            pool = self.pools[query.group[0]]
-            for past in query.past if pool.parts else ():
-                if not pool.are_enough(slot for _, slot in past.acting):
-                    self.notes.tell(FEWER, f"{group_text(query.group)} in epochs {past.first} to {past.last}")
-
-    def read_sets(self) -> Dict[int, Dict[Group, Where]]:
-        """Where groups lie, by the epochs in which they came to lie there, as far as dumps tell."""
-        found = {epoch: dict(sets) for epoch, sets in self.dumps.sets.items()}
-        for dump in self.dumps.stats:
-            sets = dumped_sets(dump)
-            for group, where in sets.where.items():
-                found.setdefault(sets.since[group], {})[group] = where
-        for query in self.queries:
-            found.setdefault(query.since, {})[query.group] = where_of(query)
-            for past in query.past:
-                size = self.pools[query.group[0]].size
-                found.setdefault(past.first, {}).setdefault(query.group, where_of_past(past, size, bool(self.pools[query.group[0]].k)))
-        return found
-
-    def first_epoch(self) -> int:
-        """The epoch of the first map, or that of an earlier interval that matters still."""
-        found = self.snapshots[0].epoch
-        for query in self.queries:
-            les = max((info.history_les for info in query.infos), default=0)
-            found = min([found, query.epoch, *(past.first for past in query.past if past.last >= les)])
-        return max(found, self.wanted.since, 1)
-
-    # Reports
-
-    def infos(self) -> List[Info]:
-        """The infos of all members, in the order of their epochs; one for each member and epoch."""
-        found = {(info.group, info.member, info.stamp): info for query in self.queries for info in query.infos}
-        asked = {query.group for query in self.queries if query.epoch >= self.snapshots[-1].epoch}
-        for dump in self.dumps.stats:
-            for stat in stats_of(dump):
-                for info in infos_of_stats(stat, self.pools):
-                    late = info._replace(stamp=max(info.stamp, self.first))
-                    if info.group not in asked:
-                        found.setdefault((late.group, late.member, late.stamp), late)
-        last = self.snapshots[-1]
-        kept = (info for info in found.values() if tell_faults(info, last.pools, list(self.devices()), last.epoch, self.notes))
-        return sorted((info for info in kept if info.stamp >= self.first), key=lambda info: (info.stamp, info.group, info.member))
-
-    def devices(self) -> Set[int]:
-        return {osd for snapshot in self.snapshots for osd in snapshot.devices}
-
-    def logs(self) -> Dict[Tuple[Group, int], Log]:
-        found: Dict[Tuple[Group, int], Log] = {}
-        for osd, name, node in self.dumps.logs:
-            group = read_group(Node(name, node.where))
-            found.setdefault((group, osd), []).extend(read_log(node, f"{group_text(group)} of osd.{osd}", self.notes))
-        return found
-
-
-def where_of(query: Query) -> Where:
-    up, acting = (next((osd for osd in places if osd is not None), None) for places in (query.up, query.acting))
-    return Where(tuple(query.up), up, tuple(query.acting), acting)
-
-
-def where_of_past(past: Any, size: int, is_erasure: bool) -> Where:
-    places: Places = [osd for osd, _ in past.acting]
-    if is_erasure:
-        by_slot = {slot: osd for osd, slot in past.acting}
-        places = [by_slot.get(slot) for slot in range(size)]
-    first = next((osd for osd in places if osd is not None), None)
-    return Where(tuple(places), first, tuple(places), first)
 
 
 # The script

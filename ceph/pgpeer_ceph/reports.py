@@ -1,7 +1,6 @@
 """Reports of a group's members, and the past intervals of which the group itself tells, from `ceph pg N.M query`.
 
-`ceph pg dump` has no infos of members. Of a group that is active and clean it tells enough all the same: each acting member
-has all that the primary has.
+`ceph pg dump` has no infos of members. Of a group that is active it tells enough all the same: its acting members are complete.
 """
 
 import re
@@ -132,16 +131,22 @@ def read_past(peering: Optional[Node], is_erasure: bool) -> Tuple[int, int, List
     return whole.count_of("first"), whole.count_of("last"), past
 
 
+def is_active(state: str) -> bool:
+    """Tells whether a state is that of a group whose primary serves."""
+    return "active" in state.split("+") and "stale" not in state.split("+")
+
+
 def infos_of_stats(stat: Node, pools: Dict[int, Pool]) -> List[Info]:
-    """The infos of a group that `ceph pg dump` says is active and clean; none of another."""
-    group, states = read_group(stat.key("pgid")), stat.key("state").text().split("+")
-    if not {"active", "clean"} <= set(states) or group[0] not in pools:
+    """The infos of a group that `ceph pg dump` says is active, whose acting members are then complete; none of another."""
+    group, state = read_group(stat.key("pgid")), stat.key("state").text()
+    if not is_active(state) or group[0] not in pools:
         return []
-    les, stamp = stat.key("last_epoch_clean").count(), stat.key("reported_epoch").count()
+    clean, stamp = stat.count_of("last_epoch_clean"), stat.key("reported_epoch").count()
+    les = clean if "clean" in state.split("+") else max(clean, stat.count_of("mapping_epoch"))
     versions = read_version(stat.key("version")), read_version(stat.key("log_start"))
     is_erasure = pools[group[0]].k is not None
     members = [(osd, at if is_erasure else 0) for at, osd in enumerate(places_of(stat.key("acting"))) if osd is not None]
-    return [Info(group, member, stamp, les, les, les, *versions, True) for member in members]
+    return [Info(group, member, stamp, les, les, clean, *versions, True) for member in members]
 
 
 # Log entries

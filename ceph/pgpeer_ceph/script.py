@@ -5,9 +5,10 @@ from typing import Any
 
 from .carry import PLACING, finish, is_misplaced, options_of_scripts
 from .folder import read_folder
-from .history import Script, Selection, history
+from .history import Script, history
 from .nodes import MOST, Unusable
 from .notes import Notes
+from .story import Selection
 
 ABOUT = """\
 Writes an incremental for each epoch, from the dumps of maps, trees, groups, queries and logs in files and folders; each is told

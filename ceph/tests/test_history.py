@@ -130,7 +130,7 @@ class OwnSets(Case):
         verdicts = dict(line.split(" in epoch 64: ") for line in self.told(STRAW2).splitlines())
         for name, verdict in verdicts.items():
             state = json.loads((STRAW2 / f"{name}.query.json").read_text())["state"]
-            wanted = "Down" if state == "down" else "NeedLog"  # no log entries are there
+            wanted = "Down" if state == "down" else "Serve"
             self.assertEqual(verdict.split(",")[0], wanted, name)
         self.assertEqual(len(verdicts), 6)
 
@@ -171,8 +171,36 @@ class Reports(Case):
 
     @unittest.skipUnless(HAS_PROGRAM, f"no program {PROGRAM}")
     def test_a_group_whose_log_is_there_serves(self):
-        text = self.told(LOGGED)
-        self.assertIn("1.0 in epoch 25: Serve\n1.1 in epoch 25: NeedLog\n", text)
+        for path in LOGGED.iterdir():
+            shutil.copy(path, self.folder)
+        query = json.loads((LOGGED / "1.1.query.json").read_text())
+        (self.folder / "1.1.query.json").write_text(json.dumps({**query, "state": "peering"}))
+        self.assertIn("1.0 in epoch 25: Serve\n1.1 in epoch 25: NeedLog\n", self.told(self.folder))
+
+    def test_the_log_of_an_active_group_is_left_out_and_told(self):
+        lines, err = self.history(LOGGED)
+        infos = [(it["pg"], it["last_update"], it["log_tail"]) for it in lines if it["op"] == "info"]
+        self.assertTrue(all(tail == last for pg, last, tail in infos if pg == [1, 1]))
+        self.assertTrue(all(tail == [0, 0] for pg, _, tail in infos if pg == [1, 0]))
+        self.assertIn("so which writes a member lacks isn't known (ceph-objectstore-tool --op log): 1.1\n", err)
+
+    @unittest.skipUnless(HAS_PROGRAM, f"no program {PROGRAM}")
+    def test_a_healthy_cluster_of_which_pg_dump_alone_tells_serves(self):
+        osdmap = json.loads((STRAW2 / "50.osd.json").read_text())
+        devices = [{**it, "up": 1, "up_from": 20, "up_thru": 40, "down_at": 0} for it in osdmap["osds"]]
+        (self.folder / "50.osd.json").write_text(json.dumps({**osdmap, "osds": devices}))
+        sets = {"3": [0, 1, 2], "4": [3, 1, 0]}
+        stats = [{"pgid": f"{pool}.{pg}", "state": "active+clean", "version": "50'7", "log_start": "40'2", "last_epoch_clean": 45,
+                  "reported_epoch": 50, "mapping_epoch": 44, "up": osds, "acting": osds, "up_primary": osds[0], "acting_primary": osds[0]}
+                 for pool, osds in sets.items() for pg in range(4 if pool == "3" else 2)]
+        for state in ("active+clean", "active+undersized+degraded", "active+recovering"):
+            stats[1]["state"] = state
+            (self.folder / "pgs.json").write_text(json.dumps({"pg_stats": stats}))
+            text = self.told(self.folder)
+            self.assertEqual([line.split(": ")[1] for line in text.splitlines()], ["Serve"] * 6, text)
+        stats[1]["state"] = "down"
+        (self.folder / "pgs.json").write_text(json.dumps({"pg_stats": stats}))
+        self.assertIn("3.1 in epoch 50: Waiting\n", self.told(self.folder))
 
     def test_members_of_erasure_groups_have_their_shards(self):
         query = reports.read_query(nodes.load(str(STRAW2 / "4.0.query.json")))
@@ -180,13 +208,17 @@ class Reports(Case):
         self.assertEqual(query.past[0].acting, [(0, 2), (1, 1)])
         self.assertEqual((query.blocked_by, query.probing), ([0, 1], [(3, 0)]))
 
-    def test_infos_of_pg_dump_are_those_of_clean_groups(self):
+    def test_infos_of_pg_dump_are_those_of_active_groups(self):
         pools = {3: Pool(3, "", 4, 3, 1, 0, None)}
         stat = {"pgid": "3.1", "state": "active+clean", "version": "50'7", "log_start": "40'2", "last_epoch_clean": 45, "reported_epoch": 52, "acting": [2, 0]}
         infos = reports.infos_of_stats(nodes.Node(stat, ""), pools)
         self.assertEqual([(it.member, it.les, it.last_update, it.log_tail, it.stamp) for it in infos], [((2, 0), 45, (50, 7), (40, 2), 52), ((0, 0), 45, (50, 7), (40, 2), 52)])
         self.assertEqual([it.last_epoch_clean for it in infos], [45, 45])
-        self.assertEqual(reports.infos_of_stats(nodes.Node({**stat, "state": "active+undersized"}, ""), pools), [])
+        unclean = {**stat, "state": "active+undersized", "mapping_epoch": 50, "acting": [0]}
+        infos = reports.infos_of_stats(nodes.Node(unclean, ""), pools)
+        self.assertEqual([(it.member, it.les, it.last_epoch_clean) for it in infos], [((0, 0), 50, 45)])
+        for state in ("down", "peering", "stale+active+clean", "incomplete", "activating"):
+            self.assertEqual(reports.infos_of_stats(nodes.Node({**stat, "state": state}, ""), pools), [], state)
 
     def test_an_info_that_was_clean_after_its_stamp_is_left_out(self):
         info = reports.Info((3, 0), (0, 0), 9, 4, 4, 9, (4, 1), (0, 0), True)
