@@ -23,7 +23,7 @@ import fuzz
 
 MOST_LINES, MOST_BYTES = 1_000_000, 4_294_967_296
 READ_FAULT, WRITE_FAULT = b"pgpeer: read fault\n", b"pgpeer: write fault\n"
-TOO_LARGE = b"pgpeer: the script has more than 1000000 lines or 4294967296 bytes\n"
+TOO_LARGE = READ_FAULT + b"pgpeer: the script has more than 1000000 lines or 4294967296 bytes\n"
 CLOSE, CLOSED = b'{"op":"close"}\n', b'{"count":1,"epoch":0,"ok":"close"}\n'
 TOO_LONG = b'{"code":30,"refused":"LineTooLong"}\n'
 KEPT = compact.message(1, 1, 0)  # of a Close

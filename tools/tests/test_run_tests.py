@@ -213,7 +213,7 @@ class Runs(WithTree):
         self.assertEqual((status, lines[-1]), (1, "0 passed, 1 failed"))
         self.run_all()
         status, lines = self.run_all("--after-gate")
-        self.assertEqual((status, lines[-1]), (0, f"{ALL - 113 - 412} passed, 0 failed"))
+        self.assertEqual((status, lines[-1]), (0, f"{ALL - 114 - 412} passed, 0 failed"))
 
 
 class Environment(unittest.TestCase):

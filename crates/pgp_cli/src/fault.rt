@@ -1,4 +1,4 @@
-//! Why the program ended with a fault, and the message that says so.
+//! Why the program ended with a fault, and the lines that say so.
 
 use pgp_compact_script::CompactFault;
 use pgp_core::{Source, WholeFault};
@@ -28,6 +28,16 @@ impl Fault {
             WholeFault::TooLarge
         })
     }
+
+    /// What caused a fault whose own line doesn't say it: a line of its own, below that one.
+    pub fn cause(&self) -> Option<&'static str> {
+        match self {
+            Fault::Script(WholeFault::TooLarge) => {
+                Some("the script has more than 1000000 lines or 4294967296 bytes")
+            }
+            _ => None,
+        }
+    }
 }
 
 impl From<ExplainFault> for Fault {
@@ -52,9 +62,7 @@ impl From<CompactFault> for Fault {
 impl fmt::Display for Fault {
     fn fmt<W: fmt::Write>(&self, f: &mut fmt::Formatter<W>) -> fmt::Result {
         match self {
-            Fault::Script(WholeFault::TooLarge) => {
-                f.write_str("the script has more than 1000000 lines or 4294967296 bytes")
-            }
+            Fault::Script(WholeFault::TooLarge) => write!(f, "{}", WholeFault::Read),
             Fault::Script(why) => write!(f, "{why}"),
             Fault::Write => f.write_str("write fault"),
             Fault::NoEngine => f.write_str("no engine"),

@@ -82,11 +82,14 @@ pub fn without_words<E: Write>(kind: io::ErrorKind, errors: &mut E) -> Ending {
     Ending::Usage
 }
 
-/// Reports a fault.
+/// Reports a fault in a line, and what caused it in a second one, where the first doesn't say it.
 pub fn report_fault<E: Write>(fault: Fault, errors: &mut E) -> Ending
     ensures { result ≡ Ending.Fault }
 {
     let _ = writeln!(errors, "pgpeer: {fault}");
+    if let Some(cause) = fault.cause() {
+        let _ = writeln!(errors, "pgpeer: {cause}");
+    }
     Ending::Fault
 }
 
