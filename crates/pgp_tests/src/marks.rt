@@ -38,12 +38,31 @@ static ONE_A_CALL: [Step; 3] = [
     Step(&[], 1, 0, "none was left"),
 ];
 
-static BOTH_BY_THE_SECOND_CALL: [Step; 2] = [
-    Step(&[TWO_GROUPS], 0, 2, "none may be worked out"),
-    Step(&[], 2, 0, "both were worked out"),
-];
+/// Of the 200 groups of pool 1 on sixteen devices, each line touches these.
+const GROUPS_200: &str =
+    r#"{"op":"inc","epoch":1,"up":[0,1,2,3,4,5,6,7,8,9,10,11,12,13,14,15],"crush":[{"id":-1,"type":1,"alg":"uniform","items":[0,1,2,3,4,5,6,7,8,9,10,11,12,13,14,15]}],"pools":[{"id":1,"pg_num":200,"kind":"replicated","size":3,"min_size":2,"leaf":0}]}"#;
 
-static BOTH_BY_THE_FIRST_CALL: [Step; 1] = [Step(&[TWO_GROUPS], 3, 0, "both by the first call")];
+const NONE: &str = r#"{"op":"inc","epoch":2}"#;
+
+const THE_LAST: &str =
+    r#"{"op":"info","pg":[1,199],"from":[15,0],"stamp":2,"les":0,"history_les":0,"last_update":[0,0],"log_tail":[0,0],"complete":true}"#;
+
+const THREE: &str = r#"{"op":"inc","epoch":3,"temp":[[1,0,[15,0]],[1,64,[0,1]],[1,128,[2,3]]]}"#;
+
+const ALL: &str = r#"{"op":"inc","epoch":4,"weight":[[7,0]]}"#;
+
+/// A shard of 200 groups works out as many as it may, and after an entry those that it touches.
+static MANY: [Step; 9] = [
+    Step(&[GROUPS_200], 0, 200, "none may be worked out"),
+    Step(&[], 64, 136, "the first 64 were worked out"),
+    Step(&[], 135, 1, "all except for one"),
+    Step(&[], 200, 0, "the last one"),
+    Step(&[NONE], 0, 0, "an entry that touches none"),
+    Step(&[THE_LAST], 0, 1, "a report of the last one"),
+    Step(&[THREE], 0, 4, "pg_temp of three more"),
+    Step(&[], 3, 1, "three of the four"),
+    Step(&[ALL], 199, 1, "new weights touch all"),
+];
 
 /// Has the shard read the entry that the line is.
 fn tell(alloc: Global, judge: &mut Judge, state: &mut ShardState, line: &str) -> Result<(), Fail>
@@ -90,6 +109,5 @@ fn goes_so<R: Abort + AllocGlobal>(rt: &R, steps: &[Step]) -> Result<(), Fail> {
 fn shards_work_out_what_was_touched_or_never_worked_out(rt: HostRuntime) -> Result<(), Fail> {
     goes_so(&rt, &TOUCHED)?;
     goes_so(&rt, &ONE_A_CALL)?;
-    goes_so(&rt, &BOTH_BY_THE_SECOND_CALL)?;
-    goes_so(&rt, &BOTH_BY_THE_FIRST_CALL)
+    goes_so(&rt, &MANY)
 }
