@@ -3,11 +3,10 @@
 mod counts;
 mod ended;
 mod entries;
+mod fronts;
 mod longest;
 mod memory;
 mod opened;
-mod pairs;
 mod press;
 mod reader;
-mod refusals;
 mod threads;

@@ -1,10 +1,14 @@
-//! That a worker works out all groups of its shards before it sleeps. A gate counts its turns.
+//! That a worker works out all groups of its shards before it sleeps, which a gate tells by counting its turns, and that it
+//! ends once all of them have read the Close, where one of them is ahead of the other.
+ghost use Rattle.std.specs.Prelude.{◌<◌};
+ghost use Rattle.pgp_thread_tests.specs.declared.engine.opened.TheConstants.{SHARDS};
+
 use crate::count::is_count;
 use crate::engine::desk::Desk;
 use crate::engine::gates::TURNS;
-use crate::engine::lines::CLOSE;
-use crate::engine::opened::{SHARDS, Trial, tried};
-use pgp_engine::{Gate, Naming};
+use crate::engine::lines::{CLOSE, EMPTY_0, MAP};
+use crate::engine::opened::{Row, SHARDS, Trial, all_tried};
+use pgp_engine::{Gate, Naming, Open};
 use pgp_fixtures::MANY_GROUPS;
 use std::process::Abort;
 use std::sync::Wait;
@@ -13,9 +17,15 @@ use std::thread;
 use std::thread::{Threads, join};
 use std::time::{Clock, Duration};
 
-/// How many turns one worker takes with both shards until nothing is left to do. Each shard reads the map in one turn, and works
-/// out its 128 groups in two more.
+/// How many turns one worker takes with both shards until nothing is left to do. The second shard reads the map in one turn, and
+/// works out its 128 groups in two more. The first has nothing to do in these rounds.
 const NEEDED: usize = 3 * SHARDS;
+
+/// How many groups each shard has.
+const GROUPS: usize = 128;
+
+/// More entries than a worker's turn reads.
+const INFOS: usize = 100;
 
 /// Counts the turns that are over.
 #[derive(Drop)]
@@ -44,13 +54,16 @@ impl CountingGate {
     }
 }
 
-/// One worker serves both shards. Once it has taken the turns that are needed, though nothing is submitted after the map, the log
+/// One worker serves both shards, of which the first has worked out all of its groups before. Once it has taken the turns that are needed, though nothing is submitted after the map, the log
 /// is closed.
 pub fn work_out<J: Naming + Send + Sync, R: Threads + Wait + Abort + Clock + AllocGlobal + Sync>(
     rt: &R,
     desk: &Desk<J>,
 ) {
     desk.put_all(rt, &[MANY_GROUPS]);
+    for _ in 0..2 {
+        is_count(rt, desk.read_on(rt, 0, GROUPS).len(), 1);
+    }
     let gate = CountingGate {
         over: AtomicUsize::new(0),
     };
@@ -65,7 +78,41 @@ pub fn work_out<J: Naming + Send + Sync, R: Threads + Wait + Abort + Clock + All
     is_count(rt, end.expect(rt, "a shard").len(), closed.len());
 }
 
+/// The log is closed, and one shard has read it. The worker of both ends once the other has read it too.
+pub fn end_last<J: Naming, R: Wait + Abort + AllocGlobal>(rt: &R, desk: &Desk<J>, ahead: usize)
+    requires { ahead < SHARDS }
+{
+    let mut told = desk.put_all(rt, &[MAP]);
+    for _ in 0..INFOS {
+        told = desk.put(rt, EMPTY_0, &told);
+    }
+    let closed = desk.put(rt, CLOSE, &told).len();
+    is_count(rt, desk.read_on(rt, ahead, closed).len(), closed);
+    is_count(
+        rt,
+        desk.work(rt, 0, &Open).expect(rt, "a shard").len(),
+        closed,
+    );
+    is_count(rt, desk.read_on(rt, 0, 0).len(), closed);
+    is_count(rt, desk.read_on(rt, 1, 0).len(), closed);
+}
+
+static TRIALS: [Row; 3] = [
+    Row(
+        "a worker ends once the second shard has read too",
+        Trial::FirstAhead,
+    ),
+    Row(
+        "a worker ends once the first shard has read too",
+        Trial::SecondAhead,
+    ),
+    Row(
+        "a worker works out all groups before it sleeps",
+        Trial::WorksOut,
+    ),
+];
+
 #[test]
 fn a_worker_works_out_all_groups_before_it_sleeps(rt: HostRuntime) {
-    tried(&rt, &Trial::WorksOut);
+    all_tried(&rt, &TRIALS);
 }

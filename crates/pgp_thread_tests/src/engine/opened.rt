@@ -7,7 +7,7 @@ use crate::engine::clients::{outlive, place_by_two};
 use crate::engine::closes::close_and_submit;
 use crate::engine::desk::Desk;
 use crate::engine::growths::call_again;
-use crate::engine::idle::work_out;
+use crate::engine::idle::{end_last, work_out};
 use crate::engine::races::race;
 use crate::engine::submits::submit_many_times;
 use crate::engine::workers::{Beside, work_beside};
@@ -42,6 +42,9 @@ pub enum Trial {
     ReadOnce,
     Works(Beside),
     WorksOut,
+    /// One of two shards of one worker has read all before the worker begins.
+    FirstAhead,
+    SecondAhead,
     Outlived,
 }
 
@@ -83,7 +86,7 @@ fn over<
 {
     let workers = match trial {
         Trial::Works(Beside::Idle) => WORKERS + 1,
-        Trial::WorksOut => 1,
+        Trial::WorksOut | Trial::FirstAhead | Trial::SecondAhead => 1,
         _ => WORKERS,
     };
     let (engine, clients) = Engine::<J>::make(rt, rt.alloc(), feed, taps, SHARDS, workers)?;
@@ -103,6 +106,8 @@ fn over<
         Trial::ReadOnce => ask_once_more(rt, &desk),
         Trial::Works(beside) => work_beside(rt, beside, &desk, &one),
         Trial::WorksOut => work_out(rt, &desk),
+        Trial::FirstAhead => end_last(rt, &desk, 0),
+        Trial::SecondAhead => end_last(rt, &desk, 1),
         Trial::Outlived => {
             outlive(rt, desk, one.get_mut(), &mut other);
             return Ok(());

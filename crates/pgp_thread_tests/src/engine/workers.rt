@@ -24,8 +24,15 @@ pub enum Beside {
     /// Neither is.
     Submits,
     EachWoken,
-    /// A third worker over two shards ends before the log is closed.
+    /// A third worker over two shards ends while the first shard is held.
     Idle,
+}
+
+// The third worker has no shard and ends. The gate holds the first one until then, and ends the test where that takes long.
+fn end_beside<J: Naming, R: Wait + Abort + Clock>(rt: &R, desk: &Desk<J>, gate: &HoldingGate<R>) {
+    gate.fills();
+    assert!(rt; desk.work(rt, 2, &Open).is_none(), "it has no shard");
+    gate.open();
 }
 
 // Does it, closes the log, and says by which front.
@@ -43,7 +50,7 @@ fn done<J: Naming + Send + Sync, R: Threads + Wait + Abort + Clock + AllocGlobal
         Beside::ClientPasses => place_past(rt, desk, gate, map, client),
         Beside::Submits => return submit_and_close(rt, desk, map),
         Beside::EachWoken => wake_each(rt, desk, map),
-        Beside::Idle => assert!(rt; desk.work(rt, 2, &Open).is_none(), "it ends at once"),
+        Beside::Idle => end_beside(rt, desk, gate),
     }
     desk.put_all(rt, &[CLOSE])
 }
@@ -55,9 +62,10 @@ pub fn work_beside<
 >(rt: &R, beside: &Beside, desk: &Desk<J>, client: &Mutex<Client<J>>) {
     let map = &desk.put_all(rt, &[MAP]);
     let both = matches!(beside, Beside::BothAtOnce | Beside::ClientPasses);
+    let first = both || matches!(beside, Beside::HeldShard | Beside::Idle);
     let gate = &HoldingGate {
         rt: *rt,
-        holds: [both || matches!(beside, Beside::HeldShard), both],
+        holds: [first, both],
         reached: [AtomicBool::new(false), AtomicBool::new(false)],
         opened: AtomicBool::new(false),
     };

@@ -1,4 +1,4 @@
-//! The receipts of one run are compared in pairs, and the list of each is read: fronts of one log, told in many ways.
+//! The front of each receipt of one run is read: fronts of one log, which are given in many ways.
 use crate::count::is_count;
 use crate::feed::entries::is_number;
 use crate::feed::press::Press;
@@ -12,8 +12,8 @@ use std::sync::{Arc, Wait};
 /// The numbers of the entries of the log. The one of number 2 is published twice, and is twice in the list.
 const NUMBERS: [u32; 6] = [0, 1, 2, 2, 3, 4];
 
-/// Each of two readers compares all receipts in pairs.
-pub fn all_meet<J: Naming, R: Wait + Abort + AllocGlobal>(rt: &R, press: &mut Press<J>) {
+/// Each of two readers reads the fronts of all receipts.
+pub fn each_read<J: Naming, R: Wait + Abort + AllocGlobal>(rt: &R, press: &mut Press<J>) {
     let one = &mut press.reader(rt);
     let other = &mut press.reader(rt);
     let mut tickets = Vec::new(rt.alloc());
@@ -24,8 +24,8 @@ pub fn all_meet<J: Naming, R: Wait + Abort + AllocGlobal>(rt: &R, press: &mut Pr
     }
     hold_others(rt, press, &mut tickets);
     is_count(rt, tickets.len(), 25);
-    all_meet_by(rt, one, tickets.as_slice());
-    all_meet_by(rt, other, tickets.as_slice());
+    all_read_by(rt, one, tickets.as_slice());
+    all_read_by(rt, other, tickets.as_slice());
 }
 
 // Holds a receipt.
@@ -60,29 +60,16 @@ fn hold_others<J: Naming, R: Abort>(rt: &R, press: &Press<J>, tickets: &mut Vec<
     hold(rt, tickets, whole);
 }
 
-// The reader compares all of them, and keeps what it had read before.
-fn all_meet_by<J: Naming, R: Abort + AllocGlobal>(
+// The reader reads all of them, and keeps what it had read before.
+fn all_read_by<J: Naming, R: Abort + AllocGlobal>(
     rt: &R,
     reader: &mut Reader<J>,
     tickets: &[Ticket<J>],
 ) {
     for ticket in tickets {
-        meet_by(rt, reader, ticket, tickets);
+        are_numbered(rt, reader.entries(rt, ticket).as_slice(), ticket.len());
     }
     is_count(rt, reader.newest().len(), NUMBERS.len());
-}
-
-// The list of the ticket is as many of the first entries that were published as its receipt names.
-fn meet_by<J: Naming, R: Abort + AllocGlobal>(
-    rt: &R,
-    reader: &mut Reader<J>,
-    one: &Ticket<J>,
-    tickets: &[Ticket<J>],
-) {
-    are_numbered(rt, reader.entries(rt, one).as_slice(), one.len());
-    for other in tickets {
-        assert!(rt; reader.meet(one, other) == one.len().cmp(&other.len()));
-    }
 }
 
 // These are as many of the first entries that were published.

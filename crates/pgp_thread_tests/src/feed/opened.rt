@@ -4,11 +4,10 @@ ghost use Rattle.pgp_thread_tests.specs.Opened.{IsOpened};
 use crate::count::is_count;
 use crate::feed::counts::all_read;
 use crate::feed::ended::outlived;
+use crate::feed::fronts::each_read;
 use crate::feed::longest::fill_and_read;
 use crate::feed::memory::use_again;
-use crate::feed::pairs::all_meet;
 use crate::feed::press::Press;
-use crate::feed::refusals::refuse_at;
 use crate::feed::threads::read_beside;
 use pgp_engine::Naming;
 use pgp_feed::{Feed, MakeFault, Tap};
@@ -21,28 +20,20 @@ use std::thread::Threads;
 pub enum Trial {
     AllRead,
     Ended,
+    Fronts,
     Longest,
     Memory,
-    Pairs,
-    /// One publish is refused, that of the entry at this place.
-    Refused(u32),
     Threads,
 }
 
 /// What has to hold, and what is tried for it with a feed of that many taps.
 struct Row(&'static str, usize, Trial);
 
-static TRIALS: [Row; 11] = [
+static TRIALS: [Row; 5] = [
     Row("one tap reads", 1, Trial::AllRead),
     Row("all taps read the same", 129, Trial::AllRead),
     Row("a tap outlives its feed", 1, Trial::Ended),
-    Row("receipts are compared in pairs", 2, Trial::Pairs),
-    Row("an info is refused at place 0", 1, Trial::Refused(0)),
-    Row("the map is refused at place 1", 1, Trial::Refused(1)),
-    Row("the map is refused at place 2", 1, Trial::Refused(2)),
-    Row("the map is refused at place 3", 1, Trial::Refused(3)),
-    Row("the map is refused at place 4", 1, Trial::Refused(4)),
-    Row("the map is refused at place 5", 1, Trial::Refused(5)),
+    Row("the front of each receipt is read", 2, Trial::Fronts),
     Row("taps read beside the writer", 2, Trial::Threads),
 ];
 
@@ -86,10 +77,9 @@ fn over<J: Naming + Send + Sync, R: Threads + Wait + Abort + AllocGlobal + Sync>
     match trial {
         Trial::AllRead => all_read(rt, &mut press),
         Trial::Ended => return outlived(rt, press),
+        Trial::Fronts => each_read(rt, &mut press),
         Trial::Longest => fill_and_read(rt, &mut press),
         Trial::Memory => use_again(rt, &mut press),
-        Trial::Pairs => all_meet(rt, &mut press),
-        Trial::Refused(place) => refuse_at(rt, &mut press, *place),
         Trial::Threads => read_beside(rt, &mut press),
     }
     press.end(rt);
