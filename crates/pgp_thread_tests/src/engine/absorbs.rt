@@ -1,15 +1,14 @@
 //! Which front a shard reads, and by which one it answers.
 use crate::count::is_count;
 use crate::engine::desk::Desk;
-use crate::engine::lines::{EMPTY_0, MAP, SHARD, TO_SERVE};
-use crate::engine::opened::{Row, Trial, all_tried, tried};
+use crate::engine::lines::{SHARD, TO_SERVE};
+use crate::engine::opened::{Row, Trial, all_tried};
 use crate::engine::steps::is_serving;
 use crate::ticket::Ticket;
 use pgp_engine::Naming;
 use std::process::Abort;
 use std::sync::Wait;
 use std::thread::{Threads, map_indices, yield_now};
-use std::time::{Clock, Instant};
 
 /// How often a thread looks at most.
 const TURNS: u32 = 1_000_000;
@@ -102,36 +101,4 @@ static TRIALS: [Row; 4] = [
 #[test]
 fn a_shard_answers_by_all_that_it_has_read(rt: HostRuntime) {
     all_tried(&rt, &TRIALS);
-}
-
-/// How many infos a shard reads at its first ask.
-const INFOS: usize = 10_000;
-
-/// How often it is asked then.
-const ASKS: usize = 20;
-
-// The first ask reads all infos. A later one that did so too would take about as long as it, and not less than an eighth.
-pub fn ask_once_more<J: Naming, R: Wait + Abort + Clock + AllocGlobal>(rt: &R, desk: &Desk<J>) {
-    let mut told = desk.put_all(rt, &[MAP]);
-    for _ in 0..INFOS {
-        told = desk.put(rt, EMPTY_0, &told);
-    }
-    let mut first = 0;
-    let mut least = u128::MAX;
-    for turn in 0..=ASKS {
-        let start = Instant::now(rt).ok().expect(rt, "a clock");
-        let _answer = desk.ask(rt, &told);
-        let took = start.elapsed(rt).ok().expect(rt, "a clock").as_nanos();
-        if turn == 0 {
-            first = took;
-        } else {
-            least = least.min(took);
-        }
-    }
-    assert!(rt; least < first / 8, "a shard reads an entry once");
-}
-
-#[test]
-fn a_shard_reads_an_entry_once(rt: HostRuntime) {
-    tried(&rt, &Trial::ReadOnce);
 }

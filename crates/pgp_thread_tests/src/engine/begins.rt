@@ -23,7 +23,9 @@ use pgp_log::World;
 use std::alloc::Global;
 use std::marker::Brand;
 use std::process::Abort;
+use std::sync::atomic::{AtomicBool, Ordering};
 use std::sync::{Arc, Wait};
+use std::thread::{Threads, join};
 
 #[test]
 fn an_engine_goes_on_with_what_is_needed_of_a_log(rt: HostRuntime) -> Result<(), MakeFault> {
@@ -95,7 +97,7 @@ fn log_of<J: Naming>(
 }
 
 // The newer one answers as if the entries had been submitted, and takes and answers what follows.
-fn newer<J: Naming, R: Wait + Abort + AllocGlobal>(
+fn newer<J: Naming + Send + Sync, R: Threads + Wait + Abort + AllocGlobal + Sync>(
     rt: &R,
     feed: Feed,
     taps: Vec<Tap>,
@@ -113,11 +115,65 @@ fn newer<J: Naming, R: Wait + Abort + AllocGlobal>(
         engine,
         workers: WORKERS,
     };
-    let next = goes_on(rt, &desk, &Ticket::over(told));
+    let told = Ticket::over(told);
+    reads_once(rt, &desk, &told, entries.first().expect(rt, "an entry"));
+    let next = goes_on(rt, &desk, &told);
     let mut client = clients.pop().expect(rt, "a client");
     is_count(rt, client.newest().len(), next.len());
     desk.end(rt);
     Ok(())
+}
+
+/// How often a shard is asked that has read all.
+const ASKS: usize = 1000;
+
+// No shard reads an entry a second time: while one is asked that has read all, no owner of an entry comes or goes. No gate forces
+// it that the one thread looks while the other asks; it looks until all was asked.
+fn reads_once<J: Naming + Send + Sync, R: Threads + Wait + Abort + AllocGlobal + Sync>(
+    rt: &R,
+    desk: &Desk<J>,
+    told: &Ticket<J>,
+    entry: &Arc<Entry>,
+) {
+    is_serving(rt, desk.ask(rt, told));
+    let owners = Arc::strong_count(entry);
+    let over = &AtomicBool::new(false);
+    let (_, same) = join(
+        rt,
+        || ask_often(rt, desk, told, over),
+        || keeps_its_owners(rt, entry, owners, over),
+    );
+    assert!(rt; same, "a shard reads an entry once");
+}
+
+// Asks until the flag is raised, and as often at most, and then raises it.
+fn ask_often<J: Naming, R: Wait + Abort>(
+    rt: &R,
+    desk: &Desk<J>,
+    told: &Ticket<J>,
+    over: &AtomicBool,
+) {
+    for _ in 0..ASKS {
+        if over.load(Ordering::SeqCst) {
+            break;
+        }
+        let _answer = desk.ask(rt, told);
+    }
+    over.store(true, Ordering::SeqCst);
+}
+
+// The entry has as many owners at each look until the flag is raised. It is raised too where the entry has another number.
+fn keeps_its_owners<R: Wait>(rt: &R, entry: &Arc<Entry>, owners: usize, over: &AtomicBool) -> bool {
+    for _ in rt.forever() {
+        if Arc::strong_count(entry) != owners {
+            over.store(true, Ordering::SeqCst);
+            return false;
+        }
+        if over.load(Ordering::SeqCst) {
+            return true;
+        }
+    }
+    true
 }
 
 // It answers by the front that it begins with, and takes an info.

@@ -2,7 +2,7 @@
 ghost use Rattle.std.specs.Prelude.{◌≡◌, length};
 ghost use Rattle.pgp_thread_tests.specs.Opened.{IsOpened};
 
-use crate::engine::absorbs::{absorb_by_two, ask_ahead, ask_by_first, ask_once_more};
+use crate::engine::absorbs::{absorb_by_two, ask_ahead, ask_by_first};
 use crate::engine::clients::{outlive, place_by_two};
 use crate::engine::closes::close_and_submit;
 use crate::engine::desk::Desk;
@@ -39,7 +39,6 @@ pub enum Trial {
     TwoClients,
     EachCallAgain,
     WorkedAhead,
-    ReadOnce,
     Works(Beside),
     WorksOut,
     /// One of two shards of one worker has read all before the worker begins.
@@ -103,7 +102,6 @@ fn over<
         Trial::TwoClients => place_by_two(rt, &desk, one.get_mut(), &mut other),
         Trial::EachCallAgain => call_again(rt, &desk, one.get_mut()),
         Trial::WorkedAhead => ask_ahead(rt, &desk),
-        Trial::ReadOnce => ask_once_more(rt, &desk),
         Trial::Works(beside) => work_beside(rt, beside, &desk, &one),
         Trial::WorksOut => work_out(rt, &desk),
         Trial::FirstAhead => end_last(rt, &desk, 0),
