@@ -24,39 +24,51 @@ const ENTRY_WITHOUT: &[u8] = b"{\"code\":51,\"refused\":\"Memory\"}";
 struct AnsweredLines {
     script: Vec<u8>,
     answers: Vec<u8>,
+    /// How many lines were out of memory.
+    without: usize,
 }
 
-// The lines that found memory, with their answers.
-fn with_memory(alloc: Global, answers: &[u8]) -> Result<AnsweredLines, AllocError> {
+// The lines that found memory, with their answers; none where the answers are not one for each line.
+fn with_memory(alloc: Global, answers: &[u8]) -> Result<Option<AnsweredLines>, AllocError> {
     let mut kept = AnsweredLines {
         script: Vec::new(alloc),
         answers: Vec::new(alloc),
+        without: 0,
     };
     let mut rest = answers;
     for line in &LINES {
         let Some(end) = rest.iter().position(|byte| *byte == b'\n') else {
-            return Ok(kept);
+            return Ok(None);
         };
         let answer = &rest[..end];
-        if answer != LINE_WITHOUT && answer != ENTRY_WITHOUT {
+        if answer == LINE_WITHOUT || answer == ENTRY_WITHOUT {
+            kept.without += 1;
+        } else {
             kept.script.extend_from_slice(line.as_bytes())?;
             kept.script.push(b'\n')?;
             kept.answers.extend_from_slice(&rest[..end + 1])?;
         }
         rest = &rest[end + 1..];
     }
-    Ok(kept)
+    Ok(if rest.is_empty() { Some(kept) } else { None })
 }
 
-// The other lines are answered as if those without memory weren't there. The one refused allocation may be one of this check,
-// which is then made once more.
+// At most one line was out of memory, since one allocation is refused at most, and the others are answered as if it weren't
+// there. The refused one may be one of this check, which is then made once more.
 fn others_are_the_same(alloc: Global, answers: &[u8]) -> Result<bool, AllocError> {
     let kept = match with_memory(alloc, answers) {
         Ok(kept) => kept,
         Err(_) => with_memory(alloc, answers)?,
     };
+    let Some(kept) = kept else {
+        return Ok(false);
+    };
     let trial = Trial::whole(kept.script.as_slice());
-    Ok(alone(alloc, &trial).bytes == kept.answers || alone(alloc, &trial).bytes == kept.answers)
+    Ok(
+        kept.without <= 1
+            && (alone(alloc, &trial).bytes == kept.answers
+                || alone(alloc, &trial).bytes == kept.answers),
+    )
 }
 
 fn one_is_refused<R: Threads + Wait + Sync + Abort + AllocGlobal>(
