@@ -1,8 +1,9 @@
 -- A compacted log is legal, and takes what the log takes.
-use Rattle.pgp_compact.proofs.Common.{Bool, Contains-nil, Entry, List, Member, None, PgId, Some, [], ap, append-nil, append_assoc, arith, cases_Bool, compacted, contains-push, entry_fault, epoch, epoch-inc, epoch-other, false, faultless-inc, filter_map-append, fits, fits-faultless, front-legal, inc_of, incs-other, incs_of, inl, inr, is_close, is_closed, is_legal, is_needed, legal-induction, legal-last, legal-snoc, length, length-append, list_any-append, nat_tests, needed_of, next_epoch, nothing_ahead, refl, report_fault, same-self, same_Some, sym, true, true≢false, ℕ, ◌++◌, ◌∙◌, ◌∷◌, ◌≡◌, ◌≢◌, ◌≤◌}
+use Rattle.pgp_compact.proofs.Common.{Bool, Contains-nil, Entry, List, Member, None, PgId, Some, [], ap, append-nil, append_assoc, arith, cases_Bool, compacted, contains-push, entry_fault, epoch, epoch-inc, epoch-other, false, faultless-inc, filter_map-append, fits, fits-faultless, front-legal, inc_of, incs-other, incs_of, inl, inr, is_close, is_closed, is_legal, is_needed, legal-induction, legal-last, legal-snoc, length, length-append, list_any-append, nat_tests, needed_of, next_epoch, nothing_ahead, refl, report_fault, same-self, same_Some, sym, true, true≢false, ℕ, ◌++◌, ◌∙◌, ◌∷◌, ◌<◌, ◌≡◌, ◌≢◌, ◌≤◌}
 use Rattle.pgp_compact.proofs.GoneOnLemmas.{IsSent}
 use Rattle.pgp_compact.proofs.NeededLemmas.{needed-any, needed-each, needed-length}
 use Rattle.pgp_compact.proofs.PartLemmas.{incs-gone_on}
+use Rattle.pgp_log.specs.Fits.{longest_log}
 use Rattle.pgp_ids.specs.declared.refusal.Refusal.TheVariants as refusal
 use Rattle.pgp_ids.specs.declared.entry.Entry.TheVariants as entry
 
@@ -12,12 +13,16 @@ pub record IsShorter (log less : List Entry) : Type 0 where
   pub closed : is_closed less ≡ is_closed log
   pub short : length less ≤ length log
 
-fault-same : (log less : List Entry) (new : Entry) → incs_of less ≡ incs_of log → entry_fault less new ≡ entry_fault log new
+pub fault-same : (log less : List Entry) (new : Entry) → incs_of less ≡ incs_of log → entry_fault less new ≡ entry_fault log new
 fault-same log less (entry.Inc inc) same = rw same refl
 fault-same log less new same = grind arith
 
 pub fits-less : (log less : List Entry) → IsShorter log less → (new : Entry) → fits log new ≢ Some refusal.LogFull → fits less new ≡ fits log new
 fits-less log less is new open' = grind (arith, nat_tests, fault-same log less new)
+
+-- there is room for one with which nothing is wrong
+pub fits-short : (less : List Entry) (new : Entry) → is_closed less ≡ false → entry_fault less new ≡ None → length less < longest_log → fits less new ≡ None
+fits-short less new open' fine short = grind (arith, nat_tests, cases_Bool (is_close new))
 
 shorter-both : (log less : List Entry) → IsShorter log less → (new : Entry) → IsShorter (log ++ new ∷ []) (less ++ new ∷ [])
 shorter-both log less is new = grind (arith, filter_map-append, list_any-append, length-append)

@@ -1,6 +1,6 @@
 //! What holds of a compacted log: every answer is that of the whole one, whatever entries follow.
 
-ghost use Rattle.std.specs.Prelude.{◌≡◌, ◌≢◌, ◌≤◌, ◌++◌, List, Some, true, length, option_map};
+ghost use Rattle.std.specs.Prelude.{◌≡◌, ◌≢◌, ◌<◌, ◌≤◌, ◌++◌, List, Some, None, true, false, length, option_map};
 ghost use Rattle.pgp_ids.specs.declared.entry.Entry.{Entry};
 ghost use Rattle.pgp_ids.specs.declared.pg_id.PgId.{PgId};
 ghost use Rattle.pgp_ids.specs.declared.refusal.Refusal.TheVariants.{LogFull};
@@ -8,7 +8,7 @@ ghost use Rattle.pgp_map.specs.Checked.{are_checked};
 ghost use Rattle.pgp_group.specs.Entries.{incs_of};
 ghost use Rattle.pgp_group.specs.Interleaving.{with_count};
 ghost use Rattle.pgp_group.specs.View.{scratch};
-ghost use Rattle.pgp_log.specs.Fits.{fits, is_closed};
+ghost use Rattle.pgp_log.specs.Fits.{entry_fault, fits, is_closed, longest_log};
 ghost use Rattle.pgp_log.specs.Log.{is_legal};
 ghost use Rattle.pgp_compact.specs.Compacted.{compacted};
 
@@ -39,9 +39,15 @@ pub fn every_answer_is_the_same()
 }
 
 /// What may follow the log may follow the compacted one. The next entry is taken or refused alike, with the same reason, except
-/// that the compacted log may have room where the whole one is full. The map stays the same.
+/// that the compacted log may have room where the whole one is full. There too both are closed or neither is, and by its map each
+/// finds the same wrong with an entry: the compacted log takes one with which nothing is wrong as long as it has room. The map stays
+/// the same.
 pub fn what_follows_is_taken_alike()
     ensures legal { (log more : List Entry) → is_legal (log ++ more) ≡ true → is_legal (compacted log ++ more) ≡ true }
+    ensures closed { (log more : List Entry) → is_closed (compacted log ++ more) ≡ is_closed (log ++ more) }
+    ensures fault { (log more : List Entry) (new : Entry) → entry_fault (compacted log ++ more) new ≡ entry_fault (log ++ more) new }
+    ensures room { (log more : List Entry) (new : Entry) → is_closed (log ++ more) ≡ false → entry_fault (log ++ more) new ≡ None
+        → length (compacted log ++ more) < longest_log → fits (compacted log ++ more) new ≡ None }
     ensures next { (log more : List Entry) (new : Entry) → fits (log ++ more) new ≢ Some LogFull
         → fits (compacted log ++ more) new ≡ fits (log ++ more) new }
     ensures incs { (log more : List Entry) → incs_of (compacted log ++ more) ≡ incs_of (log ++ more) }
