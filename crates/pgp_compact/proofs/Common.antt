@@ -5,21 +5,24 @@ pub use Rattle.std.proofs.Common.{AllPairs, Bor, IfSome, reverse}
 pub use Rattle.std.proofs.Math.Seq.{drop-cons, drop-length}
 pub use Rattle.std.proofs.lemmas.Bool.{cases_eq}
 pub use Rattle.std.proofs.lemmas.List.{drop_all, drop_more, get_or-map, get_or_append_left, get_or_push, map_more, reverse-append}
+pub use Rattle.std.proofs.lemmas.List.FromFn.{get_or-range_with_len, length-range_with_len}
 pub use Rattle.std.proofs.lemmas.List.Sorted.{IsPartitionPoint-from_clause, IsPartitionedBy-leb}
 pub use Rattle.std.proofs.lemmas.Map.Lookups.{exact_unsigned}
 pub use Rattle.std.proofs.lemmas.Option.{slice_get_read}
 pub use Rattle.std.specs.Arc.{arc_value}
 pub use Rattle.std.specs.HashMap.{HashMap}
+pub use Rattle.std.specs.List.{range_with_len}
 pub use Rattle.std.specs.List.Sorted.{IsNonDecreasingBy, IsPartitionPoint}
 pub use Rattle.std.specs.Option.{IfNone}
-pub use Rattle.std.specs.Prelude.{slice_get}
+pub use Rattle.std.specs.Prelude.{slice_get, ◌⊎◌}
 pub use Rattle.std.specs.Vec.{with_items}
-pub use Rattle.pgp_compact.specs.Compacted.{are_needed_in, are_of_one_interval, compacted, has_clean_with, infos_in, is_needed, needs_info, needs_report, opening_epoch, replaces, replaces_number, reports_in, starts_as_late}
-pub use Rattle.pgp_compact.specs.Course.{IsCourse, IsNext, IsUnderWay, LiesAt, firsts_of, lies_on, may_leave}
+pub use Rattle.pgp_compact.specs.Compacted.{are_needed_in, clean_spans, compacted, current_span, infos_in, is_clean_from, is_needed, is_within, may_be_heard, needs_info, needs_report, past_spans, replaces, replaces_number, reports_in, span_of, starts_as_late, tells_last_clean, tells_last_of, tells_last_start, wants_clean}
+pub use Rattle.pgp_compact.specs.Course.{IsCourse, IsNext, IsUnderWay, LiesAt, ended, lies_on, may_leave}
 pub use Rattle.pgp_compact.specs.Courses.{AreCourses, EachIsCourse, HasReport, IsCourseIn, IsReportOf, IsSameButCourse, started_by}
 pub use Rattle.pgp_compact.specs.Greatest.{IsGreatestOf, reaches}
-pub use Rattle.pgp_compact.specs.Later.{IsLater, clean_in, is_same_number, is_same_opening, is_same_sender, number_of, numbers, opening_at, sender_of, sent, started, written}
+pub use Rattle.pgp_compact.specs.Later.{AreLastCleans, IsLater, clean_in, is_same_number, is_same_opening, is_same_sender, number_of, numbers, opening_at, sender_of, sent, started, written}
 pub use Rattle.pgp_compact.specs.Needed.{are_needed, chosen, needed_of}
+pub use Rattle.pgp_compact.specs.Spans.{LieApart}
 pub use Rattle.pgp_compact.specs.Standing.{HasReached, opening_in, standing_at}
 pub use Rattle.pgp_compact.specs.Whole.{HasRead}
 pub use Rattle.pgp_compact.specs.declared.course.Course.{Course}
@@ -27,35 +30,40 @@ pub use Rattle.pgp_compact.specs.declared.courses.Courses.{Courses}
 pub use Rattle.pgp_compact.specs.declared.keys.Number.{Number}
 pub use Rattle.pgp_compact.specs.declared.keys.Opening.{Opening}
 pub use Rattle.pgp_compact.specs.declared.group_place.GroupPlace.{GroupPlace}
+pub use Rattle.pgp_compact.specs.declared.span.Span.{Span}
 pub use Rattle.pgp_compact.specs.declared.standing.Standing.{Standing}
 pub use Rattle.pgp_compact.specs.declared.whole.Whole.{Whole}
 pub use Rattle.pgp_group.proofs.FirstLemmas.{along}
 pub use Rattle.pgp_group.proofs.GroupLemmas.{infos-new, infos-other, infos-same, on_ok, reports-other, reports-same}
 pub use Rattle.pgp_group.proofs.GrowthLemmas.{epoch-snoc, has_group-grows, history-begins-made, history-grows, history-last, next_epoch, unmade, numbered}
-pub use Rattle.pgp_group.proofs.HeardLemmas.{HasDistinctMembers-last_of}
 pub use Rattle.pgp_group.proofs.HistoryLemmas.{history-current}
-pub use Rattle.pgp_group.proofs.InterleavingLemmas.{any-found, find-last_of, is_of, last_of-found}
-pub use Rattle.pgp_group.proofs.LaterLemmas.{counts_by, histories, is_after, log-in}
+pub use Rattle.pgp_group.proofs.InterleavingLemmas.{is_of}
+pub use Rattle.pgp_group.proofs.LaterLemmas.{counts_by, fold_max-least, histories, is_after, log-in}
 pub use Rattle.pgp_group.proofs.Lists.{contains-push, filter-both, filter-none, filter_map-from, last_or-any, none-narrower}
 pub use Rattle.pgp_group.proofs.PeerLemmas.{contains-filter_map, same_member}
 pub use Rattle.pgp_group.proofs.ReachingLemmas.{left-unmoved, lies-as-before}
 pub use Rattle.pgp_group.proofs.UntoldLemmas.{temp-same}
-pub use Rattle.pgp_group.proofs.ViewLemmas.{prefers_is_preference}
 pub use Rattle.pgp_group.specs.Entries.{info_of}
+pub use Rattle.pgp_group.specs.GroupLog.{infos}
 pub use Rattle.pgp_group.specs.Interleaving.{with_count}
 pub use Rattle.pgp_group.specs.Peering.{info_of as info_by}
 pub use Rattle.pgp_group.specs.Prefers.{prefers}
-pub use Rattle.pgp_info.proofs.SameInfos.{same_best}
+pub use Rattle.pgp_info.specs.Best.{best_info}
 pub use Rattle.pgp_interval.proofs.IntervalLemmas.{lie_end_to_end, members_at-last_place}
 pub use Rattle.pgp_interval.proofs.Openings.{opening_of-le, opening_of-opens, opening_of-stays}
 pub use Rattle.pgp_interval.specs.Interval.{LieEndToEnd}
-pub use Rattle.pgp_interval.specs.Runs.{ends_at, opening_of, opens_at, past_ending, past_ends}
+pub use Rattle.pgp_ids.specs.declared.history.EpochState.{EpochState}
+pub use Rattle.pgp_interval.specs.History.{current_state, state_at}
+pub use Rattle.pgp_interval.specs.ReadWrite.{can_write, is_recorded, was_clean}
+pub use Rattle.pgp_interval.specs.Runs.{current_ending, ends_at, opening_of, opens_at, past_ending, past_ends, past_of}
 pub use Rattle.pgp_lists.proofs.Last.{last_or-append}
 pub use Rattle.pgp_lists.proofs.Lists.{any-mapped, any-same, get-last, get-set_other, get-set_same}
 pub use Rattle.pgp_lists.proofs.Members.{map-agree}
 pub use Rattle.pgp_lists.proofs.Ordered.{ascending-unique}
 pub use Rattle.pgp_lists.proofs.Pairs.{AllPairs-weaker}
 pub use Rattle.pgp_lists.specs.Last.{last_where}
+pub use Rattle.pgp_group.proofs.ViewLemmas.{history_there}
+pub use Rattle.pgp_lists.proofs.Options.{some_is}
 pub use Rattle.pgp_log.proofs.ComingLemmas.{comes-with_pool, has_group-same}
 pub use Rattle.pgp_log.proofs.FitsLemmas.{nothing_ahead}
 pub use Rattle.pgp_log.proofs.GroupsLemmas.{same-self}
@@ -66,6 +74,7 @@ pub use Rattle.pgp_log.proofs.TakeLemmas.{epoch-inc, epoch-other, faultless-inc,
 pub use Rattle.pgp_log.proofs.TouchLemmas.{none-moved, turned-parts}
 pub use Rattle.pgp_log.specs.Fits.{entry_fault, fits, is_close, is_closed}
 pub use Rattle.pgp_log.specs.Log.{is_legal}
+pub use Rattle.pgp_log.specs.MapBefore.{IsMapBefore}
 pub use Rattle.pgp_log.specs.RawSets.{IsRawSet}
 pub use Rattle.pgp_log.specs.ReportFault.{report_fault}
 pub use Rattle.pgp_log.specs.Touch.{moves_none}

@@ -1,7 +1,19 @@
 -- What is kept of the groups that have reports, as entries are noted and maps follow.
-use Rattle.pgp_compact.proofs.Common.{AnyCode, AreCourses, AreNumbered, Bor, Course, Courses, EachIsCourse, Entry, History, IfNone, IfSome, Incremental, Info, IsCourse, IsCourseIn, IsNext, IsReportOf, IsSameButCourse, IsSilent, IsUnderWay, LiesAt, List, GroupPlace, None, Option, OsdMap, PgId, PrimaryFacts, Report, Some, [], any-same, arith, begun, cases_Bool, cases_eq, code_of, comes-with_pool, cond, current_first-continues, current_first-ends, enough_of, epoch, epoch-snoc, eq-is_same, false, fold-append, front-checked, get-last, get-set_other, get-set_same, get_or, get_or_from_slice_get, has_group, has_group-same, history-begins-made, history-current, history-grows, history-last, incs, info_of, infos-new, infos-other, infos-same, inl, inr, is_by_place, is_same, is_same-eq, is_same_group, is_some, last-checked, left-unmoved, length, lies-as-before, lies_on, map-append, map_fault, map_some, max, may_leave, may_lie_on, may_move, moves_none, nat_lt, nat_tests, next_epoch, none-moved, past_intervals-continues, past_intervals-ends, pool, pool_membership, primary_facts, raw_set-stays, refl, report_of, reports-other, reports-same, same-self, same_group, set, slice_get, slice_get_within, started_by, stepped, subst, suc, temp-same, then_with, true, turned-parts, unmade, unmoved-unplaced, ℕ, ◌++◌, ◌∙◌, ◌∷◌, ◌≡◌, ◌≢◌, numbered}
+use Rattle.pgp_compact.proofs.Common.{AnyCode, AreCourses, AreNumbered, Bool, Bor, Course, Courses, EachIsCourse, Entry, GroupPlace, History, IfNone, IfSome, Incremental, Info, IsCourse, IsCourseIn, IsNext, IsReportOf, IsSameButCourse, IsSilent, IsUnderWay, LiesAt, List, Membership, None, Option, OsdMap, Past, PgId, PrimaryFacts, Report, Some, Span, [], any-same, ap, arith, begun, can_write, cases_Bool, cases_eq, code_of, comes-with_pool, cond, current_first, current_first-continues, current_first-ends, ended, enough_of, epoch, epoch-snoc, eq-is_same, false, filter, fold-append, front-checked, get-last, get-set_other, get-set_same, get_or, get_or_from_slice_get, group_history, has_group, has_group-grows, has_group-same, history-begins-made, history-current, history-grows, history-last, incs, info_of, infos-new, infos-other, infos-same, inl, inr, is_by_place, is_recorded, is_same, is_same-eq, is_same_group, is_some, last-checked, left-unmoved, length, lies-as-before, lies_on, map, map-append, map_fault, map_some, max, may_leave, may_lie_on, may_move, moves_none, nat_le, nat_lt, nat_tests, next_epoch, none-moved, not, numbered, past_intervals, past_intervals-continues, past_intervals-ends, pool, pool_membership, primary_facts, raw_set-stays, refl, report_of, reports-other, reports-same, same-self, same_group, set, slice_get, slice_get_within, span_of, started_by, stepped, subst, suc, sym, temp-same, then_with, true, true≢false, turned-parts, unmade, unmoved-unplaced, wants_clean, ℕ, ◌&&◌, ◌++◌, ◌||◌, ◌∙◌, ◌∷◌, ◌≡◌, ◌≢◌}
 use Rattle.std.specs.HashMap as hash
 use Rattle.pgp_ids.specs.declared.entry.Entry.TheVariants as entry
+use Rattle.pgp_ids.specs.declared.pool.PoolSpec.{PoolSpec}
+
+-- ---- what a flag says
+
+pub never-written : (can recorded since : Bool) → can ≡ false → false ≡ (can && (not (can && (recorded || false)) || since))
+never-written can recorded since unable = grind (arith, nat_tests)
+
+pub never-recorded : (can recorded since : Bool) → can ≡ true → recorded ≡ false → true ≡ (can && (not (can && (recorded || false)) || since))
+never-recorded can recorded since able open' = grind (arith, nat_tests)
+
+pub was-recorded : (can recorded since : Bool) → can ≡ true → recorded ≡ true → since ≡ (can && (not (can && (recorded || false)) || since))
+was-recorded can recorded since able is = grind (arith, nat_tests)
 
 -- ---- a group that stays where it lies
 
@@ -18,8 +30,13 @@ lies-still incs inc pg place fine still lies =
     grind (arith, raw_set-stays, temp-same, lies-as-before incs inc pg fine still)
 
 -- what is kept of a group that is under way
-pub under-way : (incs : List Incremental) (course : Course) (place : GroupPlace) → course.place ≡ Some place → IsUnderWay incs course.pg course.firsts.items place → IsCourse incs course
+pub under-way : (incs : List Incremental) (course : Course) (place : GroupPlace) → course.place ≡ Some place → IsUnderWay incs course.pg course.les course.first course.spans.items place → IsCourse incs course
 under-way incs course place is on = grind arith
+
+-- one interval more, if it passes
+one-more : {X Y : Type 0} (f : X → Y) (test : X → Bool) (xs : List X) (x : X) → map f (filter test (xs ++ x ∷ [])) ≡ cond (test x) (map f (filter test xs) ++ f x ∷ []) (map f (filter test xs))
+one-more f test [] x = grind (arith, cases_Bool (test x))
+one-more f test (first ∷ xs) x = grind (arith, cases_Bool (test x), cases_Bool (test first), one-more f test xs x)
 
 module _ (incs : List Incremental) (inc : Incremental) (after : OsdMap) (next : IsNext incs inc after) where
   abbrev later : List Incremental
@@ -31,26 +48,40 @@ module _ (incs : List Incremental) (inc : Incremental) (after : OsdMap) (next : 
   counts : AreNumbered incs
   counts = numbered incs (front-checked incs (inc ∷ []) next.checked)
 
-  -- the group lies there by the map
-  pub moved : (pg : PgId) (firsts firsts' : List ℕ) (place to : GroupPlace) → IsUnderWay incs pg firsts place → LiesAt later pg to
-      → firsts' ≡ cond (is_same place.members to.members) firsts (firsts ++ epoch later ∷ []) → IsUnderWay later pg firsts' to
-  moved pg firsts firsts' place to is lies are =
+  -- the group lies there by the map, on the same members: its interval goes on
+  pub stayed : (pg : PgId) (les first : ℕ) (spans : List Span) (place to : GroupPlace) → IsUnderWay incs pg les first spans place → LiesAt later pg to → is_same place.members to.members ≡ true → IsUnderWay later pg les first spans to
+  stayed pg les first spans place to is lies same =
       let h : History AnyCode = is.history in
       let facts : PrimaryFacts = primary_facts incs h.current.acting_primary in
       let here : place.members ≡ h.current = grind (arith, history-current incs pg h is.history_is) in
+      let to-here : to.members ≡ h.current = sym (is_same-eq place.members to.members same) ∙ here in
+      let past = past_intervals-continues enough_of is_by_place [] h facts in
+      record {
+        history = stepped h h.current facts;
+        history_is = grind (arith, history-grows incs inc pg h counts fine is.history_is);
+        first_is = is.first_is ∙ sym (current_first-continues h facts);
+        spans_are = is.spans_are ∙ sym (ap (λ (p : List Past). map span_of (filter (wants_clean h.code les) p)) past);
+        lies = lies;
+      }
+
+  -- on others: its interval ends
+  pub moved : (pg : PgId) (les first : ℕ) (spans : List Span) (place to : GroupPlace) (is : IsUnderWay incs pg les first spans place) → LiesAt later pg to → is_same place.members to.members ≡ false
+      → (after' : ℕ) (wanted : Bool) (spans' : List Span) → wanted ≡ wants_clean is.history.code les (ended incs is.history) → after' ≡ epoch later
+      → spans' ≡ cond wanted (spans ++ record { first = first; last = epoch incs } ∷ []) spans → IsUnderWay later pg les after' spans' to
+  moved pg les first spans place to is lies differ after' wanted spans' wants starts are =
+      let h : History AnyCode = is.history in
+      let facts : PrimaryFacts = primary_facts incs h.current.acting_primary in
+      let here : place.members ≡ h.current = grind (arith, history-current incs pg h is.history_is) in
+      let apart : to.members ≢ h.current = λ e. true≢false (sym (eq-is_same place.members to.members (here ∙ sym e)) ∙ differ) in
+      let past = past_intervals-ends enough_of is_by_place [] h to.members facts apart in
+      let last = history-last incs pg h counts is.history_is in
+      let span : span_of (ended incs h) ≡ record { first = first; last = epoch incs } = λ i. record { first = sym is.first_is i; last = last i } in
+      let more = one-more span_of (wants_clean h.code les) (past_intervals enough_of is_by_place [] h) (ended incs h) in
       record {
         history = stepped h to.members facts;
         history_is = grind (arith, history-grows incs inc pg h counts fine is.history_is);
-        firsts_are = are ∙ elim (cases_Bool (is_same place.members to.members)) [
-          | inl same ↦
-              let past = past_intervals-continues enough_of is_by_place [] h facts in
-              grind (arith, is_same-eq place.members to.members same, past, current_first-continues h facts)
-          | inr differ ↦
-              let apart : to.members ≢ h.current = λ e. grind (arith, eq-is_same place.members to.members) in
-              let past = past_intervals-ends enough_of is_by_place [] h to.members facts apart in
-              let last = history-last incs pg h counts is.history_is in
-              grind (arith, past, current_first-ends h to.members facts apart, map-append, epoch-snoc incs inc, next_epoch incs inc fine, last)
-        ];
+        first_is = grind (arith, current_first-ends h to.members facts apart, epoch-snoc incs inc, next_epoch incs inc fine, last);
+        spans_are = grind (arith, cases_Bool wanted, past, more, span, is.spans_are);
         lies = lies;
       }
 
@@ -62,19 +93,48 @@ module _ (incs : List Incremental) (inc : Incremental) (after : OsdMap) (next : 
     there = λ place some.
         let u = is.there place some in
         let lies = lies-still incs inc course.pg place fine still u.lies in
-        moved course.pg course.firsts.items course.firsts.items place place u lies (grind (arith, eq-is_same));
+        stayed course.pg course.les course.first course.spans.items place place u lies (eq-is_same place.members place.members refl);
   }
 
   -- the group comes
-  pub begins : (pg : PgId) (place : GroupPlace) → has_group incs pg ≡ false → has_group later pg ≡ true → LiesAt later pg place → IsUnderWay later pg (epoch later ∷ []) place
-  begins pg place absent there lies =
+  pub begins : (pg : PgId) (les : ℕ) (place : GroupPlace) → has_group incs pg ≡ false → has_group later pg ≡ true → LiesAt later pg place → IsUnderWay later pg les (epoch later) [] place
+  begins pg les place absent there lies =
       let m = map_some (pool_membership later pg) (pool later pg.pool) place.members lies.members_are in
       record {
         history = begun (code_of m.0.kind) inc.epoch (pool_membership later pg m.0);
         history_is = grind (arith, history-begins-made incs inc pg (comes-with_pool incs inc pg absent there) there);
-        firsts_are = grind (arith, epoch-snoc incs inc);
+        first_is = grind (arith, epoch-snoc incs inc);
+        spans_are = refl;
         lies = lies;
       }
+
+  -- the code of the group's pool stays
+  pub code-later : (pg : PgId) (h : History AnyCode) (made : PoolSpec) → group_history incs pg ≡ Some h → pool later pg.pool ≡ Some made → code_of made.kind ≡ h.code
+  code-later pg h made is pooled =
+      let grows = history-grows incs inc pg h counts fine is in
+      let there = has_group-grows incs inc pg h fine is in
+      grind (arith, grows, there, pooled)
+
+  abbrev wants_by : ℕ → AnyCode → Membership → ℕ → ℕ → Bool
+  wants_by les code members first last =
+      can_write (enough_of code) (is_by_place code) members
+      && (not (can_write (enough_of code) (is_by_place code) members && (is_recorded (primary_facts incs members.acting_primary) first || false)) || nat_le les last)
+
+  -- whether clean epochs of its current interval can matter once that ends, by the pool that the next map has
+  pub wants-are : (pg : PgId) (les first : ℕ) (spans : List Span) (place : GroupPlace) (way : IsUnderWay incs pg les first spans place) (made : PoolSpec) → pool later pg.pool ≡ Some made
+      → wants_clean way.history.code les (ended incs way.history) ≡ wants_by les (code_of made.kind) place.members first (epoch incs)
+  wants-are pg les first spans place way made pooled =
+      let h : History AnyCode = way.history in
+      let code : code_of made.kind ≡ h.code = code-later pg h made way.history_is pooled in
+      let here : place.members ≡ h.current = grind (arith, history-current incs pg h way.history_is) in
+      let last = history-last incs pg h counts way.history_is in
+      λ i. wants_by les (sym code i) (sym here i) (sym way.first_is i) (last i)
+
+  -- its pool is there
+  pub pool-later : (pg : PgId) (h : History AnyCode) → group_history incs pg ≡ Some h → pool later pg.pool ≡ None → ⊥
+  pool-later pg h is none =
+      let there = has_group-grows incs inc pg h fine is in
+      grind (arith, there, none)
 
 -- a list with one element more is the same at every other place
 get-append_other : {X : Type 0} (xs : List X) (x : X) (j : ℕ) → (j ≡ length xs → ⊥) → slice_get (xs ++ x ∷ []) j ≡ slice_get xs j
@@ -103,6 +163,17 @@ noted-nothing incs entries new courses no_info no_report are = record {
       record { course = a.course; at = a.at; is = grind (arith, infos-same entries new pg no_info, a.is) };
   silent = λ pg none. grind (arith, infos-same entries new pg no_info, reports-same entries new pg no_report, are.silent pg none);
   each = are.each;
+}
+
+-- before any map it doesn't matter when a group began to serve
+never-made : (pg : PgId) (h : History AnyCode) → group_history [] pg ≡ Some h → ⊥
+never-made pg h is = let none : group_history [] pg ≡ None = refl in grind (arith, none)
+
+started-over : (course : Course) (les : ℕ) → IsCourse [] course → IsCourse [] (record course { les = les })
+started-over course les is = record {
+  absent = is.absent;
+  unbegun = is.unbegun;
+  there = λ place some. let u = is.there place some in absurd (never-made course.pg u.history u.history_is);
 }
 
 -- ---- a report is noted
@@ -137,7 +208,7 @@ module _ (entries : List Entry) (new : Entry) (pg : PgId) (les : ℕ) (says : Is
       (grind (arith, get-set_same, slice_get_within old.all.items place course at))
       (λ j differ. grind (arith, get-set_other))
       (λ other j differ found' e. grind (arith, are.listed other j found', same-self pg))
-      (grind arith) (grind arith) (grind arith)
+      (grind arith) (grind arith) (started-over course (max course.les les) was)
 
   -- of a group that is new
   pub noted-first : (course : Course) → course.pg ≡ pg → course.les ≡ les → IsCourse [] course → hash.get is_same_group old.places pg ≡ None

@@ -1,6 +1,7 @@
 -- What is kept of later reports says which earlier ones they make needless.
-use Rattle.pgp_compact.proofs.Common.{Bool, Entry, GroupLog, HashMap, Info, IsGreatestOf, List, LogEntry, Number, Opening, Option, PgId, Report, Some, [], arith, clean_in, epoch, filter, flat_map, get_or, group_in, has_clean_with, has_number, if_some, is_same_group, is_same_member, is_same_number, is_same_opening, is_same_sender, length, list_any, list_any-append, map, map_more, nat_eq, nat_le, nat_tests, number_of, numbers, opening_at, opening_epoch, opening_in, option_and_then, option_map_or, reaches, refl, replaces, replaces_number, same_Some, same_group, sender_of, sent, started, starts_as_late, take, true, within, written, ℕ, ◌&&◌, ◌++◌, ◌+◌, ◌<◌, ◌∷◌, ◌≡◌}
-use Rattle.pgp_compact.proofs.IntervalLemmas.{opened}
+use Rattle.pgp_compact.proofs.Common.{Bool, Entry, GroupLog, HashMap, Info, IsGreatestOf, List, LogEntry, None, Number, Opening, Option, PgId, Report, Some, Span, [], any-same, ap, ap₂, arith, cases_Bool, clean_in, clean_spans, epoch, false, filter, find, flat_map, get_or, group_history, group_in, group_with, has_number, incs_of, infos, infos_in, infos_of, is_clean_from, is_same_group, is_same_member, is_same_number, is_same_opening, is_same_sender, is_within, length, les, list_any, list_any-append, map, map_more, map_some, nat_eq, nat_le, nat_tests, not, number_of, numbers, opening_at, opening_in, option_and_then, option_map, option_map_or, reaches, refl, replaces, replaces_number, same_Some, same_group, sender_of, sent, started, starts_as_late, sym, take, tells_last_clean, tells_last_of, true, within, written, ℕ, ◌&&◌, ◌++◌, ◌+◌, ◌<◌, ◌∙◌, ◌∷◌, ◌≡◌}
+use Rattle.pgp_compact.proofs.IntervalLemmas.{spans-apart}
+use Rattle.pgp_compact.proofs.SpanLemmas.{any-holds, same-opening}
 
 pub senders-are : (info : Info) (xs : List Info)
     → reaches is_same_sender (map sent xs) (sender_of info) info.stamp ≡ list_any (replaces info) (filter (λ other. is_same_group other.pg info.pg) xs)
@@ -12,27 +13,81 @@ pub starts-are : (info : Info) (xs : List Info)
 starts-are info [] = refl
 starts-are info (other ∷ xs) = grind (arith, nat_tests, starts-are info xs)
 
-abbrev opens_as : PgId → ℕ → Opening × ℕ → Bool
-opens_as pg first it = is_same_opening (opening_at pg first) it.0 && nat_le 0 it.1
+abbrev opens_as : PgId → ℕ → ℕ → Opening × ℕ → Bool
+opens_as pg first epoch it = is_same_opening (opening_at pg first) it.0 && nat_le epoch it.1
 
--- whether an epoch of clean is of the interval that opens then
-clean-as : (g : GroupLog) (pg other : PgId) (epoch clean first : ℕ) → nat_le g.history.first epoch ≡ true → opening_epoch g epoch ≡ first
-    → (found : Option ℕ) → (is_same_group other pg ≡ true → found ≡ opening_in g clean)
-    → list_any (opens_as pg first) (option_map_or (λ f. (opening_at other f, 0) ∷ []) found [])
-    ≡ (is_same_group other pg && ((nat_le g.history.first epoch && nat_le g.history.first clean) && nat_eq (opening_epoch g epoch) (opening_epoch g clean)))
-clean-as g pg other epoch clean first lives is found here = grind (arith, nat_tests)
+-- whether a clean epoch is noted for the interval that opens then
+noted-as : (pg other : PgId) (first epoch clean : ℕ) (found : Option ℕ)
+    → list_any (opens_as pg first epoch) (option_map_or (λ f. (opening_at other f, clean) ∷ []) found [])
+    ≡ (is_same_group other pg && (option_map_or (λ f. nat_eq first f) found false && nat_le epoch clean))
+noted-as pg other first epoch clean None = grind (arith, nat_tests)
+noted-as pg other first epoch clean (Some f) = grind (arith, nat_tests)
 
-pub openings-are : (log : List Entry) (info : Info) (g : GroupLog) (first : ℕ) → group_in log info.pg ≡ Some g → opening_in g info.last_epoch_clean ≡ Some first → (xs : List Info)
-    → reaches is_same_opening (flat_map (clean_in log) xs) (opening_at info.pg first) 0 ≡ list_any (has_clean_with g info) (filter (λ other. is_same_group other.pg info.pg) xs)
-openings-are log info g first there opened [] = refl
-openings-are log info g first there opened (other ∷ xs) =
-    let o = if_some (nat_le g.history.first info.last_epoch_clean) (Some (opening_epoch g info.last_epoch_clean)) first opened in
+-- an epoch of the interval opens as it does, and no other
+opens-here : (g : GroupLog) (epoch clean : ℕ) (span : Span) → find (is_within clean) (clean_spans g) ≡ Some span → option_map_or (λ f. nat_eq span.first f) (opening_in g epoch) false ≡ is_within epoch span
+opens-here g epoch clean span found =
+    mapped-or (λ (s : Span). s.first) (nat_eq span.first) (find (is_within epoch) (clean_spans g))
+    ∙ same-opening g.history.first clean epoch (clean_spans g) span (spans-apart g.history (les g)) found
+  where
+    mapped-or : {X Y : Type 0} (f : X → Y) (test : Y → Bool) (o : Option X) → option_map_or test (option_map f o) false ≡ option_map_or (λ x. test (f x)) o false
+    mapped-or f test None = refl
+    mapped-or f test (Some x) = refl
+
+pub cleans-are : (log : List Entry) (pg : PgId) (g : GroupLog) (clean : ℕ) (span : Span) → group_in log pg ≡ Some g → find (is_within clean) (clean_spans g) ≡ Some span → (epoch : ℕ) (xs : List Info)
+    → reaches is_same_opening (flat_map (clean_in log) xs) (opening_at pg span.first) epoch ≡ list_any (is_clean_from span epoch) (filter (λ other. is_same_group other.pg pg) xs)
+cleans-are log pg g clean span there held epoch [] = refl
+cleans-are log pg g clean span there held epoch (other ∷ xs) =
     let found : Option ℕ = option_and_then (λ k. opening_in k other.last_epoch_clean) (group_in log other.pg) in
-    let here : is_same_group other.pg info.pg ≡ true → found ≡ opening_in g other.last_epoch_clean =
-    λ same. rw (same_group other.pg info.pg same, there) refl in
-    let one = clean-as g info.pg other.pg info.last_epoch_clean other.last_epoch_clean first o.0 (same_Some _ first o.1) found here in
-    let rest = openings-are log info g first there opened xs in
-    grind (arith, one, rest, list_any-append (opens_as info.pg first) (clean_in log other) (flat_map (clean_in log) xs))
+    let here : is_same_group other.pg pg ≡ true → option_map_or (λ f. nat_eq span.first f) found false ≡ is_within other.last_epoch_clean span =
+    λ same. rw (same_group other.pg pg same, there) (opens-here g other.last_epoch_clean clean span held) in
+    let one = noted-as pg other.pg span.first epoch other.last_epoch_clean found in
+    let rest = cleans-are log pg g clean span there held epoch xs in
+    grind (arith, cases_Bool (is_same_group other.pg pg), one, here, rest, list_any-append (opens_as pg span.first epoch) (clean_in log other) (flat_map (clean_in log) xs))
+
+both : (a b c : Bool) → (a && b && c) ≡ (a && (b && c))
+both true b c = refl
+both false b c = refl
+
+-- whether an info tells of the last clean epoch of the interval that holds that epoch
+tells-clean : (g : GroupLog) (later : List Info) (info : Info) → tells_last_clean g later info ≡ option_map_or
+    (λ span. not (list_any (is_clean_from span (info.last_epoch_clean + 1)) (infos g)) && not (list_any (is_clean_from span info.last_epoch_clean) later))
+    (find (is_within info.last_epoch_clean) (clean_spans g)) false
+tells-clean g later info =
+    let test : Span → Bool = λ span. not (list_any (is_clean_from span (info.last_epoch_clean + 1)) (infos g)) && not (list_any (is_clean_from span info.last_epoch_clean) later) in
+    any-same (tells_last_of g later info) (λ span. is_within info.last_epoch_clean span && test span) (clean_spans g)
+    (λ span. both (is_within info.last_epoch_clean span) (not (list_any (is_clean_from span (info.last_epoch_clean + 1)) (infos g))) (not (list_any (is_clean_from span info.last_epoch_clean) later)))
+    ∙ any-holds g.history.first info.last_epoch_clean test (clean_spans g) (spans-apart g.history (les g))
+
+unmapped : {X Y : Type 0} (f : X → Y) (o : Option X) → option_map f o ≡ None → o ≡ None
+unmapped f None none = refl
+unmapped f (Some x) none = grind arith
+
+pub tells-none : (g : GroupLog) (later : List Info) (info : Info) → opening_in g info.last_epoch_clean ≡ None → tells_last_clean g later info ≡ false
+tells-none g later info none =
+    let found : find (is_within info.last_epoch_clean) (clean_spans g) ≡ None = unmapped (λ (s : Span). s.first) _ none in
+    tells-clean g later info ∙ ap (λ (o : Option Span). option_map_or
+    (λ span. not (list_any (is_clean_from span (info.last_epoch_clean + 1)) (infos g)) && not (list_any (is_clean_from span info.last_epoch_clean) later)) o false) found
+
+-- by what is kept of all infos and of the later ones
+pub tells-some : (log later : List Entry) (g : GroupLog) (info : Info) (first : ℕ) → group_in log info.pg ≡ Some g → opening_in g info.last_epoch_clean ≡ Some first
+    → tells_last_clean g (infos_in info.pg later) info
+    ≡ (not (reaches is_same_opening (flat_map (clean_in log) (infos_of log)) (opening_at info.pg first) (info.last_epoch_clean + 1))
+    && not (reaches is_same_opening (flat_map (clean_in log) (infos_of later)) (opening_at info.pg first) info.last_epoch_clean))
+tells-some log later g info first there opened =
+    let n : ℕ = info.last_epoch_clean in
+    let m = map_some (λ (s : Span). s.first) (find (is_within n) (clean_spans g)) first opened in
+    let span : Span = m.0 in
+    let h = map_some (group_with log info.pg) (group_history (incs_of log) info.pg) g there in
+    let told : infos_in info.pg log ≡ infos g = ap infos h.2 in
+    let all : reaches is_same_opening (flat_map (clean_in log) (infos_of log)) (opening_at info.pg first) (n + 1) ≡ list_any (is_clean_from span (n + 1)) (infos g) =
+    ap (λ (k : ℕ). reaches is_same_opening (flat_map (clean_in log) (infos_of log)) (opening_at info.pg k) (n + 1)) (sym m.2)
+    ∙ cleans-are log info.pg g n span there m.1 (n + 1) (infos_of log) ∙ ap (list_any (is_clean_from span (n + 1))) told in
+    let some : reaches is_same_opening (flat_map (clean_in log) (infos_of later)) (opening_at info.pg first) n ≡ list_any (is_clean_from span n) (infos_in info.pg later) =
+    ap (λ (k : ℕ). reaches is_same_opening (flat_map (clean_in log) (infos_of later)) (opening_at info.pg k) n) (sym m.2)
+    ∙ cleans-are log info.pg g n span there m.1 n (infos_of later) in
+    tells-clean g (infos_in info.pg later) info
+    ∙ ap (λ (o : Option Span). option_map_or (λ s. not (list_any (is_clean_from s (n + 1)) (infos g)) && not (list_any (is_clean_from s n) (infos_in info.pg later))) o false) m.1
+    ∙ sym (ap₂ (λ (a b : Bool). not a && not b) all some)
 
 abbrev numbered_as : Report → ℕ → Number × ℕ → Bool
 numbered_as report v it = is_same_number (number_of report v) it.0 && nat_le report.stamp it.1

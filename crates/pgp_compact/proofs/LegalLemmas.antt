@@ -1,5 +1,5 @@
 -- A compacted log is legal, and takes what the log takes.
-use Rattle.pgp_compact.proofs.Common.{Bool, Contains-nil, Entry, List, Member, None, PgId, Some, [], ap, append-nil, append_assoc, arith, cases_Bool, compacted, contains-push, entry_fault, epoch, epoch-inc, epoch-other, false, faultless-inc, filter_map-append, fits, fits-faultless, front-legal, inc_of, incs-other, incs_of, inl, inr, is_close, is_closed, is_legal, is_needed, legal-induction, legal-last, legal-snoc, length, length-append, list_any-append, nat_tests, needed_of, next_epoch, nothing_ahead, refl, report_fault, same-self, same_Some, sym, true, true≢false, ℕ, ◌++◌, ◌∙◌, ◌∷◌, ◌<◌, ◌≡◌, ◌≢◌, ◌≤◌}
+use Rattle.pgp_compact.proofs.Common.{AnyCode, Bool, Contains-nil, Entry, History, Incremental, List, Member, None, Option, PgId, Some, [], ap, append-nil, append_assoc, are_checked, arith, cases_Bool, compacted, contains-push, entry_fault, epoch, epoch-inc, epoch-other, false, faultless-inc, filter_map-append, fits, fits-faultless, front-checked, front-legal, group_history, group_in, group_with, has_group-grows, history_there, inc_of, incs-other, incs_of, inl, inr, is_close, is_closed, is_legal, is_needed, last-checked, legal-induction, legal-last, legal-snoc, length, length-append, list_any-append, nat_tests, needed_of, next_epoch, nothing_ahead, option_map, refl, report_fault, same-self, same_Some, some_is, sym, then_with, true, true≢false, ℕ, ◌++◌, ◌<◌, ◌∙◌, ◌∷◌, ◌≡◌, ◌≢◌, ◌≤◌}
 use Rattle.pgp_compact.proofs.GoneOnLemmas.{IsSent}
 use Rattle.pgp_compact.proofs.NeededLemmas.{needed-any, needed-each, needed-length}
 use Rattle.pgp_compact.proofs.PartLemmas.{incs-gone_on}
@@ -74,3 +74,22 @@ legal-sent = legal-induction IsSent (λ x there. absurd (Contains-nil x there)) 
       | inl old ↦ let was = sent x old in grind (arith, was.info, was.report)
       | inr same ↦ grind (arith, same_Some, stamp-come, fits-faultless log x, nothing_ahead log, same-self)
     ])
+
+-- a group that a log has stays
+still-there : (pg : PgId) (later incs : List Incremental) (h : History AnyCode) → are_checked (incs ++ later) ≡ true → group_history incs pg ≡ Some h → group_history (incs ++ later) pg ≡ None → ⊥
+still-there pg [] incs h checked is none = grind (arith, append-nil incs)
+still-there pg (inc ∷ later) incs h checked is none =
+    let one : incs ++ inc ∷ later ≡ then_with incs inc ++ later = grind (arith, append_assoc) in
+    let front = front-checked (then_with incs inc) later (ap are_checked (sym one) ∙ checked) in
+    let there = has_group-grows incs inc pg h (last-checked incs inc front) is in
+    let next = some_is (group_history (then_with incs inc) pg) (history_there (then_with incs inc) pg ∙ there) in
+    still-there pg later (then_with incs inc) next.0 (ap are_checked (sym one) ∙ checked) next.1 (ap (λ (l : List Incremental). group_history l pg) (sym one) ∙ none)
+
+pub group-stays : (log more : List Entry) (pg : PgId) → are_checked (incs_of (log ++ more)) ≡ true → group_history (incs_of (log ++ more)) pg ≡ None → group_in log pg ≡ None
+group-stays log more pg checked none = at (group_history (incs_of log) pg) refl where
+  both : incs_of (log ++ more) ≡ incs_of log ++ incs_of more
+  both = filter_map-append inc_of log more
+
+  at : (found : Option (History AnyCode)) → group_history (incs_of log) pg ≡ found → option_map (group_with log pg) found ≡ None
+  at None is = refl
+  at (Some h) is = absurd (still-there pg (incs_of more) (incs_of log) h (ap are_checked (sym both) ∙ checked) is (ap (λ (l : List Incremental). group_history l pg) (sym both) ∙ none))

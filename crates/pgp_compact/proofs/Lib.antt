@@ -1,6 +1,7 @@
 pub mod Common
 pub mod NeededLemmas
 pub mod NumberLemmas
+pub mod SpanLemmas
 pub mod IntervalLemmas
 pub mod PartLemmas
 pub mod GoneOnLemmas
@@ -9,3 +10,5 @@ pub mod TwiceLemmas
 pub mod CoursesLemmas
 pub mod LaterLemmas
 pub mod WholeLemmas
+pub mod ReasonsLemmas
+pub mod AgainLemmas

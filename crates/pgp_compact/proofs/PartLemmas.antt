@@ -1,9 +1,8 @@
 -- What is left of a compacted log: its incrementals, and of the reports of a group those that say of it what all of them say,
--- whatever follows.
-use Rattle.pgp_compact.proofs.Common.{AnyCode, Bool, Contains, Contains-here, Contains-later, Entry, GroupLog, History, Incremental, Info, List, LogEntry, Member, None, Option, PgId, Report, Some, [], and_parts, any-contains, ap, append-nil, arith, by_number, cases_lt, compacted, contains-any, counts_by, ends_at, false, fold, fold-append, group_in, has_clean_with, has_number, inc_of, incs, incs_of, info_of, infos_in, is_counted, is_needed, is_of, is_same_group, is_same_member, last_place, last_where, les, list_any, map, map-append, max, nat_eq, nat_le, nat_tests, needed_of, needs_info, needs_report, none-narrower, not, opening_of, option_and_then, option_map_or, or-false, or-true, refl, replaces, replaces_number, report_of, reports_in, same_Some, same_group, same_member, sent, starts_as_late, suc, sym, true, ℕ, ◌&&◌, ◌++◌, ◌+◌, ◌<◌, ◌||◌, ◌∙◌, ◌∷◌, ◌≡◌, ◌≤◌}
-use Rattle.pgp_compact.proofs.IntervalLemmas.{GoesOn, stays-within}
+use Rattle.pgp_compact.proofs.Common.{AnyCode, Bool, Contains, Contains-here, Contains-later, Entry, GroupLog, History, Incremental, Info, List, LogEntry, Member, None, Option, PgId, Report, Some, Span, [], and_parts, any-contains, ap, append-nil, arith, by_number, cases_Bool, cases_lt, compacted, contains-any, counts_by, false, fold, fold-append, group_in, has_number, inc_of, incs, incs_of, info_of, infos, infos_in, inl, inr, is_clean_from, is_counted, is_needed, is_of, is_same_group, is_same_member, is_within, last_place, last_where, les, list_any, list_any-append, map, map-append, max, nat_eq, nat_le, nat_tests, needed_of, needs_info, needs_report, none-narrower, not, option_and_then, option_map_or, or-false, or-true, refl, replaces, replaces_number, report_of, reports_in, same_Some, same_group, same_member, starts_as_late, suc, sym, tells_last_clean, tells_last_of, true, true≢false, zero, ℕ, ◌&&◌, ◌++◌, ◌+◌, ◌<◌, ◌||◌, ◌∙◌, ◌∷◌, ◌≡◌, ◌≤◌}
+use Rattle.pgp_compact.proofs.IntervalLemmas.{CanMatter, GoesOn, span_ending, was-among}
 use Rattle.pgp_compact.proofs.NeededLemmas.{NeedsLast, needed-any, needed-last, needed-none, needed-part, needed-whole}
-use Rattle.pgp_compact.proofs.NumberLemmas.{by_number-same, entries_in, has, last-number}
+use Rattle.pgp_compact.proofs.NumberLemmas.{AlikeByNumber, by_number-same, entries_in, has, last-number}
 use Rattle.pgp_ids.specs.declared.entry.Entry.TheVariants as entry
 
 -- its incrementals stay whole
@@ -41,10 +40,11 @@ reports-needed log rest more pg =
 
 -- ---- a group that goes on
 
--- how the group of the log that was compacted stands to its history later: what was sent by the epoch of that log and counts
--- later counted then, and its intervals stay
-pub record ComesBefore (g : GroupLog) (incs : List Incremental) (after : History AnyCode) (epoch : ℕ) : Type 0 where
+-- how the group of the log that was compacted stands to its history later, when it last began to serve in the epoch `later`: what
+-- was sent by the epoch of that log and counts later counted then, and its intervals stay
+pub record ComesBefore (g : GroupLog) (incs : List Incremental) (after : History AnyCode) (later epoch : ℕ) : Type 0 where
   pub counted : (member : Member) (stamp : ℕ) → stamp ≤ epoch → counts_by incs after member stamp ≡ true → is_counted g member stamp ≡ true
+  pub starts : les g ≤ later
   pub on : GoesOn g.history after
   pub known : epoch ≤ g.history.first + last_place g.history
 
@@ -92,18 +92,37 @@ is_heard incs after member info = counts_by incs after info.member info.stamp &&
 abbrev pub clean_of : Info → ℕ
 clean_of info = info.last_epoch_clean
 
-abbrev pub is_clean : History AnyCode → ℕ → Info → Bool
-is_clean after last info = nat_le (after.first + opening_of after last) info.last_epoch_clean && nat_le info.last_epoch_clean (after.first + last)
-
 abbrev pub is_told : List Incremental → History AnyCode → Member → Report → Bool
 is_told incs after member report = is_same_member report.member member && counts_by incs after report.member report.stamp
 
 abbrev tells_of : List Incremental → History AnyCode → Member → ℕ → Report → Bool
 tells_of incs after member v report = is_told incs after member report && has_number v report.log
 
-module _ (incs : List Incremental) (after : History AnyCode) (epoch : ℕ) where
+-- it tells of as late a clean epoch of the same interval
+pub as-clean : (a b : Span) (n m : ℕ) (info : Info) → is_within info.last_epoch_clean a ≡ is_within info.last_epoch_clean b → m ≤ n → is_clean_from a n info ≡ true → is_clean_from b m info ≡ true
+as-clean a b n m info same below clean = grind (arith, nat_tests)
+
+none-each : {X : Type 0} (test : X → Bool) (xs : List X) → ((x : X) → Contains xs x → test x ≡ false) → list_any test xs ≡ false
+none-each test [] each = refl
+none-each test (x ∷ xs) each = grind (arith, each x (Contains-here x xs), none-each test xs (λ y there. each y (Contains-later x xs y there)))
+
+pub any-wider : {X : Type 0} (narrow wide : X → Bool) (xs : List X) → ((x : X) → narrow x ≡ true → wide x ≡ true) → list_any narrow xs ≡ true → list_any wide xs ≡ true
+any-wider narrow wide xs each some = grind (arith, cases_Bool (list_any wide xs), none-narrower narrow wide each xs)
+
+-- a test that passes at a number, and at some later one doesn't, passes at a last one
+last-passing : (test : ℕ → Bool) (n more : ℕ) → test n ≡ true → test (n + more) ≡ false → (m : ℕ) × (n ≤ m) × (test m ≡ true) × (test (m + 1) ≡ false)
+last-passing test n zero some none = let same : n + 0 ≡ n = omega arith in absurd (true≢false (sym some ∙ sym (ap test same) ∙ none))
+last-passing test n (suc more) some none = elim (cases_Bool (test (n + 1))) [
+  | inl again ↦
+      let same : (n + 1) + more ≡ n + suc more = omega arith in
+      let rest = last-passing test (n + 1) more again (ap test same ∙ none) in
+      (rest.0, omega (arith, rest.1), rest.2, rest.3)
+  | inr stops ↦ (n, omega arith, some, stops)
+]
+
+module _ (incs : List Incremental) (after : History AnyCode) (later epoch : ℕ) where
   abbrev pub Before : Option GroupLog → Type 0
-  Before found = (g : GroupLog) → found ≡ Some g → ComesBefore g incs after epoch
+  Before found = (g : GroupLog) → found ≡ Some g → ComesBefore g incs after later epoch
 
   -- the last info of each member that counts is needed
   pub heard-needed : (member : Member) (found : Option GroupLog) → Before found → NeedsLast (λ (info : Info). info.stamp ≤ epoch) (wants_info found) (is_heard incs after member)
@@ -111,17 +130,53 @@ module _ (incs : List Incremental) (after : History AnyCode) (epoch : ℕ) where
       let alone = none-narrower (replaces info) (is_heard incs after member) (λ other again. grind (arith, nat_tests, same_member)) later none in
       grind (arith, nat_tests, alone, before)
 
-  -- so is the last one with a clean epoch in an interval
-  pub clean-needed : (last : ℕ) → ends_at after last ≡ true → (found : Option GroupLog) → Before found
-      → NeedsLast (λ (info : Info). info.last_epoch_clean ≤ epoch) (wants_info found) (is_clean after last)
-  clean-needed last ends None before later info known all clean none = refl
-  clean-needed last ends (Some g) before later info known all clean none =
-      let b = before g refl in
-      let stays = stays-within g after b.on last info.last_epoch_clean in
-      let alone = none-among (has_clean_with g info) (is_clean after last) later
-      (λ other there one. grind (arith, nat_tests, b.known, all other there, stays other.last_epoch_clean ends)) none in
-      let lives : nat_le g.history.first info.last_epoch_clean ≡ true = grind (arith, nat_tests, b.on.first) in
-      rw (lives, alone, or-true) refl
+  -- these infos are all that the log has of the group, and none tells of a clean epoch that is to come
+  pub record AreAll (found : Option GroupLog) (told : List Info) : Type 0 where
+    pub are : (g : GroupLog) → found ≡ Some g → infos g ≡ told
+    pub known : (info : Info) → Contains told info → info.last_epoch_clean ≤ epoch
+
+  module _ (last : ℕ) (matters : CanMatter after later last) where
+    -- so is the one with the last clean epoch of an interval in which clean epochs can matter later
+    pub clean-needed : (most : ℕ) (found : Option GroupLog) → Before found → (told : List Info) → AreAll found told → list_any (is_clean_from (span_ending after last) (most + 1)) told ≡ false
+        → NeedsLast (λ (info : Info). info.last_epoch_clean ≤ epoch) (wants_info found) (is_clean_from (span_ending after last) most)
+    clean-needed most None before told all none_more rest info known each clean none = refl
+    clean-needed most (Some g) before told all none_more rest info known each clean none =
+        let b = before g refl in
+        let c = and_parts (is_within info.last_epoch_clean (span_ending after last)) (nat_le most info.last_epoch_clean) clean in
+        let low : most ≤ info.last_epoch_clean = grind (arith, nat_tests, c.1) in
+        let w = was-among g after b.on later b.starts last info.last_epoch_clean matters (omega (arith, known, b.known)) c.0 in
+        let here : is_within info.last_epoch_clean w.span ≡ true = w.same info.last_epoch_clean (omega (arith, known, b.known)) ∙ c.0 in
+        let no_later : list_any (is_clean_from w.span (info.last_epoch_clean + 1)) (infos g) ≡ false =
+        ap (list_any (is_clean_from w.span (info.last_epoch_clean + 1))) (all.are g refl)
+        ∙ none-among (is_clean_from w.span (info.last_epoch_clean + 1)) (is_clean_from (span_ending after last) (most + 1)) told
+        (λ other there. as-clean w.span (span_ending after last) (info.last_epoch_clean + 1) (most + 1) other (w.same other.last_epoch_clean (omega (arith, all.known other there, b.known))) (omega (arith, low))) none_more in
+        let no_same : list_any (is_clean_from w.span info.last_epoch_clean) rest ≡ false =
+        none-among (is_clean_from w.span info.last_epoch_clean) (is_clean_from (span_ending after last) most) rest
+        (λ other there. as-clean w.span (span_ending after last) info.last_epoch_clean most other (w.same other.last_epoch_clean (omega (arith, each other there, b.known))) low) none in
+        let tells : tells_last_of g rest info w.span ≡ true = rw (here, no_later, no_same) refl in
+        let kept : tells_last_clean g rest info ≡ true = w.there (tells_last_of g rest info) tells in
+        rw (kept, or-true) refl
+
+    -- by the infos that are needed the group was clean in that interval as late as by all of them, whatever follows
+    pub clean-same : (n : ℕ) (found : Option GroupLog) → Before found → (told more : List Info) → AreAll found told
+        → list_any (is_clean_from (span_ending after last) n) (needed_of (wants_info found) told ++ more) ≡ list_any (is_clean_from (span_ending after last) n) (told ++ more)
+    clean-same n found before told more all =
+        let clean : ℕ → Info → Bool = is_clean_from (span_ending after last) in
+        let left : List Info = needed_of (wants_info found) told in
+        elim (cases_Bool (list_any (clean n) told)) [
+          | inl some ↦
+              let end : list_any (clean (n + (epoch + 1))) told ≡ false = none-each (clean (n + (epoch + 1))) told
+              (λ info there. let low = all.known info there in grind (arith, nat_tests, cases_Bool (nat_le (n + (epoch + 1)) info.last_epoch_clean))) in
+              let top = last-passing (λ k. list_any (clean k) told) n (epoch + 1) some end in
+              let kept = needed-any (λ (info : Info). info.last_epoch_clean ≤ epoch) (wants_info found) (clean top.0) (clean-needed top.0 found before told all top.3) told more all.known in
+              let whole : list_any (clean top.0) (told ++ more) ≡ true = grind (arith, list_any-append (clean top.0) told more, top.2) in
+              let less = any-wider (clean top.0) (clean n) (left ++ more) (λ info. as-clean (span_ending after last) (span_ending after last) top.0 n info refl top.1) (kept ∙ whole) in
+              let all' : list_any (clean n) (told ++ more) ≡ true = grind (arith, list_any-append (clean n) told more) in
+              less ∙ sym all'
+          | inr none ↦
+              let gone = needed-none (wants_info found) (clean n) told none in
+              list_any-append (clean n) left more ∙ ap (λ b. b || list_any (clean n) more) (gone ∙ sym none) ∙ sym (list_any-append (clean n) told more)
+        ]
 
   -- and the last report that counts with an entry of a number
   told-needed : (member : Member) (v : ℕ) (found : Option GroupLog) → Before found
@@ -137,11 +192,14 @@ module _ (incs : List Incremental) (after : History AnyCode) (epoch : ℕ) where
       grind (arith, nat_tests, a.0, alone, kept found.0 found.1.0, (before g refl).counted report.member report.stamp early)
 
   -- the last entry of each number is the same, whatever follows
-  pub told-same : (member : Member) (found : Option GroupLog) → Before found → (told more : List Report) → ((report : Report) → Contains told report → report.stamp ≤ epoch)
-      → by_number (entries_in (is_told incs after member) (needed_of (wants_report found) told ++ more)) ≡ by_number (entries_in (is_told incs after member) (told ++ more))
-  told-same member found before told more early =
-      by_number-same _ _ (λ v.
+  pub told-alike : (member : Member) (found : Option GroupLog) → Before found → (told more : List Report) → ((report : Report) → Contains told report → report.stamp ≤ epoch)
+      → AlikeByNumber (entries_in (is_told incs after member) (needed_of (wants_report found) told ++ more)) (entries_in (is_told incs after member) (told ++ more))
+  told-alike member found before told more early v =
       last-number v (is_told incs after member) (needed_of (wants_report found) told ++ more)
       ∙ ap (option_and_then (λ (report : Report). last_where (has v) report.log))
       (needed-last (λ (report : Report). report.stamp ≤ epoch) (wants_report found) (tells_of incs after member v) (told-needed member v found before) None told more early)
-      ∙ sym (last-number v (is_told incs after member) (told ++ more)))
+      ∙ sym (last-number v (is_told incs after member) (told ++ more))
+
+  pub told-same : (member : Member) (found : Option GroupLog) → Before found → (told more : List Report) → ((report : Report) → Contains told report → report.stamp ≤ epoch)
+      → by_number (entries_in (is_told incs after member) (needed_of (wants_report found) told ++ more)) ≡ by_number (entries_in (is_told incs after member) (told ++ more))
+  told-same member found before told more early = by_number-same _ _ (told-alike member found before told more early)

@@ -1,28 +1,35 @@
 -- What the whole log says of a group, and which entries are left of a log that is walked from its end.
-use Rattle.pgp_compact.proofs.Common.{Contains, Contains-nil, Course, Entry, GroupLog, HasReached, HasRead, HasReport, Incremental, Info, IsCourse, IsMapOf, IsNext, IsPresent, List, GroupPlace, None, Option, OsdMap, PgId, Report, Says, Some, Standing, Whole, [], ap, arith, checked-more, contains-filter, contains-filter_map, current_first, drop, drop-cons, epoch, faultless-inc, firsts_of, fits-faultless, front-legal, get_or, get_or_push, group_in, group_with, history-last, inc_of, incs-other, incs_of, info_of, infos_of, is_legal, is_same_group, legal-checked, legal-counts, legal-last, length, length-append, log-in, map, map_fault, opening_in, option_map, refl, report_of, reports_of, same-self, standing_at, started, started_by, suc, then_with, true, within, ℕ, ◌++◌, ◌+◌, ◌-◌, ◌<◌, ◌∷◌, ◌≡◌, ◌≤◌}
+use Rattle.pgp_compact.proofs.Common.{AreLastCleans, Contains, Contains-nil, Course, Entry, GroupLog, GroupPlace, HasReached, HasRead, HasReport, HashMap, Incremental, Info, IsCourse, IsMapOf, IsNext, IsPresent, List, None, Opening, Option, OsdMap, PgId, Report, Says, Some, Standing, Whole, [], ap, arith, checked-more, contains-filter, contains-filter_map, current_first, drop, drop-cons, epoch, faultless-inc, fits-faultless, front-legal, get_or, group_in, group_with, history-last, inc_of, incs-other, incs_of, info_of, infos_of, is_legal, is_same_group, legal-checked, legal-counts, legal-last, length, les, log-in, map, map_fault, opening_in, option_and_then, option_map, past_spans, refl, report_of, reports_of, same-self, same_Some, standing_at, started, started_by, suc, sym, then_with, true, within, ℕ, ◌++◌, ◌+◌, ◌-◌, ◌<◌, ◌∙◌, ◌∷◌, ◌≡◌, ◌≤◌}
 use Rattle.pgp_compact.proofs.LegalLemmas.{legal-sent}
 use Rattle.pgp_ids.specs.declared.entry.Entry.TheVariants as entry
 
 -- what is kept of a group
-pub stands : (log : List Entry) (course : Course) (clean first : ℕ) (opening : Option ℕ) → is_legal log ≡ true → IsCourse (incs_of log) course → course.les ≡ started_by log course.pg → clean ≤ epoch (incs_of log)
-    → 0 < length course.firsts.items → first ≡ get_or course.firsts.items (length course.firsts.items - 1) first → ((g : GroupLog) → course.firsts.items ≡ firsts_of g.history → HasReached g clean → opening ≡ opening_in g clean)
-    → Some (record { first = first; les = course.les; opening = opening }) ≡ option_map (standing_at clean) (group_in log course.pg)
-stands log course clean first opening legal is started known some last opens = at course.place refl where
-  at : (place : Option GroupPlace) → course.place ≡ place → Some (record { first = first; les = course.les; opening = opening }) ≡ option_map (standing_at clean) (group_in log course.pg)
-  at None none = absurd (omega (arith, some, ap length (is.unbegun none)))
-  at (Some place) some =
-      let u = is.there place some in
-      let g : GroupLog = group_with log course.pg u.history in
-      let ends = history-last (incs_of log) course.pg u.history (legal-counts log legal) u.history_is in
-      let o : opening ≡ opening_in g clean = opens g u.firsts_are (omega (arith, ends, known)) in
-      let e : first ≡ current_first u.history = grind (arith, last, u.firsts_are, get_or_push, length-append) in
-      rw u.history_is (λ i. Some (record { first = e i; les = started i; opening = o i }))
+pub stands : (log : List Entry) (course : Course) (clean : ℕ) (opening : Option ℕ) → is_legal log ≡ true → IsCourse (incs_of log) course → course.les ≡ started_by log course.pg → clean ≤ epoch (incs_of log)
+    → (place : GroupPlace) → course.place ≡ Some place
+    → ((g : GroupLog) → course.first ≡ current_first g.history → course.spans.items ≡ past_spans g.history (les g) → HasReached g clean → opening ≡ opening_in g clean)
+    → Some (record { first = course.first; les = course.les; opening = opening }) ≡ option_map (standing_at clean) (group_in log course.pg)
+stands log course clean opening legal is started known place some opens =
+    let u = is.there place some in
+    let g : GroupLog = group_with log course.pg u.history in
+    let ends = history-last (incs_of log) course.pg u.history (legal-counts log legal) u.history_is in
+    let spans : course.spans.items ≡ past_spans u.history (les g) = u.spans_are ∙ ap (past_spans u.history) started in
+    let o : opening ≡ opening_in g clean = opens g u.first_is spans (omega (arith, ends, known)) in
+    rw u.history_is (λ i. Some (record { first = u.first_is i; les = started i; opening = o i }))
 
-pub stands-absent : (log : List Entry) (course : Course) (clean : ℕ) → IsCourse (incs_of log) course → length course.firsts.items ≡ 0 → None ≡ option_map (standing_at clean) (group_in log course.pg)
-stands-absent log course clean is last = at course.place refl where
-  at : (place : Option GroupPlace) → course.place ≡ place → None ≡ option_map (standing_at clean) (group_in log course.pg)
-  at None none = rw (is.absent none) refl
-  at (Some place) some = let u = is.there place some in absurd (grind (arith, u.firsts_are, length-append))
+pub stands-absent : (log : List Entry) (course : Course) (clean : ℕ) → IsCourse (incs_of log) course → course.place ≡ None → None ≡ option_map (standing_at clean) (group_in log course.pg)
+stands-absent log course clean is none = rw (is.absent none) refl
+
+-- what is said of the interval of an epoch
+pub stands-opening : (epoch : ℕ) (found : Option GroupLog) (standing : Standing) → Some standing ≡ option_map (standing_at epoch) found → standing.opening ≡ option_and_then (λ g. opening_in g epoch) found
+stands-opening epoch None standing is = grind arith
+stands-opening epoch (Some g) standing is = ap (λ (s : Standing). s.opening) (same_Some standing (standing_at epoch g) is)
+
+pub no-clean : {S : Type 0} (log later : List Entry) (info : Info) (table : HashMap Opening ℕ S) → None ≡ option_map (standing_at info.last_epoch_clean) (group_in log info.pg)
+    → AreLastCleans log later table → AreLastCleans log (entry.Info info ∷ later) table
+no-clean log later info table is kept = at (group_in log info.pg) refl where
+  at : (found : Option GroupLog) → group_in log info.pg ≡ found → AreLastCleans log (entry.Info info ∷ later) table
+  at None none = rw none kept
+  at (Some g) some = grind (arith, some)
 
 -- the group depends on the map of its log
 pub present : (log : List Entry) (pg : PgId) (g : GroupLog) (map : OsdMap) (clean : ℕ) (found : Standing) → group_in log pg ≡ Some g → IsMapOf (incs_of log) map → found ≡ standing_at clean g → IsPresent g map found.first

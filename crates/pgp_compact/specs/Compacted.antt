@@ -1,22 +1,28 @@
--- A log without the reports that no answer can need any more, whatever entries follow (this project's own choice). Which
--- reports count later is Ceph's: a report of an older interval, or of a device that wasn't up all the time since, doesn't
--- (its developer documentation on peering).
-use Rattle.std.specs.Prelude.{ℕ, ◌+◌, ◌-◌, List, Bool, true, not, ◌&&◌, ◌||◌, nat_eq, nat_lt, nat_le, filter}
+-- A log without reports that no answer needs any more, whatever entries follow (this project's own choice). The others stay;
+-- whether some answer needs each of them isn't said. Which reports count later is Ceph's: a report of an older interval, or of a
+-- device that wasn't up all the time since, doesn't (its developer documentation on peering).
+use Rattle.std.specs.Prelude.{ℕ, ◌+◌, List, [], ◌∷◌, ◌++◌, Bool, true, not, ◌&&◌, ◌||◌, nat_lt, nat_le, map, filter}
 use Rattle.std.specs.List.{list_any}
 use Rattle.std.specs.Option.{option_map_or}
+use Rattle.pgp_code.specs.AnyCode.{enough_of, is_by_place}
+use Rattle.pgp_code.specs.declared.any.AnyCode.{AnyCode}
 use Rattle.pgp_ids.specs.Member.{is_same_member}
 use Rattle.pgp_ids.specs.declared.entry.Entry.{Entry}
 use Rattle.pgp_ids.specs.declared.entry.Entry.TheVariants as entry
+use Rattle.pgp_ids.specs.declared.past.Past.{Past}
 use Rattle.pgp_ids.specs.declared.pg_id.PgId.{PgId}
 use Rattle.pgp_ids.specs.declared.report.Info.{Info}
 use Rattle.pgp_ids.specs.declared.report.Report.{Report}
-use Rattle.pgp_interval.specs.Runs.{opening_of}
+use Rattle.pgp_interval.specs.History.{History, last_place}
+use Rattle.pgp_interval.specs.ReadWrite.{can_write}
+use Rattle.pgp_interval.specs.Runs.{current_first, past_intervals}
 use Rattle.pgp_map.specs.Pools.{is_same_group}
 use Rattle.pgp_missing.specs.Log.{has_number}
 use Rattle.pgp_group.specs.Entries.{infos_of, reports_of}
-use Rattle.pgp_group.specs.GroupLog.{GroupLog, group_in}
+use Rattle.pgp_group.specs.GroupLog.{GroupLog, group_in, infos}
 use Rattle.pgp_group.specs.Heard.{is_counted, les}
 use Rattle.pgp_compact.specs.Needed.{are_needed, needed_of}
+use Rattle.pgp_compact.specs.declared.span.Span.{Span}
 
 -- ---- infos
 
@@ -37,24 +43,47 @@ abbrev pub tells_last_start : GroupLog → List Info → Info → Bool
 tells_last_start g later info =
     nat_lt 0 info.history_les && nat_le (les g) info.history_les && not (list_any (starts_as_late info) later)
 
--- the first epoch of the group's interval that holds this epoch of its life, and that of the current one for epochs to come
-abbrev pub opening_epoch : GroupLog → ℕ → ℕ
-opening_epoch g epoch = g.history.first + opening_of g.history (epoch - g.history.first)
+-- ---- clean epochs
 
--- the group was there in both epochs, and they are of one interval
-abbrev pub are_of_one_interval : GroupLog → ℕ → ℕ → Bool
-are_of_one_interval g epoch other =
-    nat_le g.history.first epoch && nat_le g.history.first other && nat_eq (opening_epoch g epoch) (opening_epoch g other)
+-- In a past interval, as the maps alone tell it, clean epochs can matter to a group that last began to serve in the epoch `les`:
+-- its members could serve writes, and either no map records that they may have done so, or it may yet block the group.
+abbrev pub wants_clean : AnyCode → ℕ → Past → Bool
+wants_clean code les past = can_write (enough_of code) (is_by_place code) past.members && (not past.rw || nat_le les past.last)
 
-abbrev pub has_clean_with : GroupLog → Info → Info → Bool
-has_clean_with g info other = are_of_one_interval g info.last_epoch_clean other.last_epoch_clean
+abbrev pub span_of : Past → Span
+span_of past = record { first = past.first; last = past.last }
 
--- it is the last one with a last_epoch_clean in its interval
+-- the past intervals in which clean epochs can matter
+abbrev pub past_spans : History AnyCode → ℕ → List Span
+past_spans h les = map span_of (filter (wants_clean h.code les) (past_intervals enough_of is_by_place [] h))
+
+-- the current interval, as far as it has come
+abbrev pub current_span : History AnyCode → Span
+current_span h = record { first = current_first h; last = h.first + last_place h }
+
+-- the intervals in which clean epochs can matter: those past ones, and the current one, whatever may become of it
+abbrev pub clean_spans : GroupLog → List Span
+clean_spans g = past_spans g.history (les g) ++ current_span g.history ∷ []
+
+abbrev pub is_within : ℕ → Span → Bool
+is_within epoch span = nat_le span.first epoch && nat_le epoch span.last
+
+-- by the info the group was clean in the interval, in this epoch of it or later
+abbrev pub is_clean_from : Span → ℕ → Info → Bool
+is_clean_from span epoch info = is_within info.last_epoch_clean span && nat_le epoch info.last_epoch_clean
+
+-- it tells of the last clean epoch of the interval: no info of the group tells of a later one, and no later info of the same
+abbrev pub tells_last_of : GroupLog → List Info → Info → Span → Bool
+tells_last_of g later info span =
+    is_within info.last_epoch_clean span
+    && not (list_any (is_clean_from span (info.last_epoch_clean + 1)) (infos g))
+    && not (list_any (is_clean_from span info.last_epoch_clean) later)
+
+-- it does so of an interval in which clean epochs can matter
 abbrev pub tells_last_clean : GroupLog → List Info → Info → Bool
-tells_last_clean g later info =
-    nat_le g.history.first info.last_epoch_clean && not (list_any (has_clean_with g info) later)
+tells_last_clean g later info = list_any (tells_last_of g later info) (clean_spans g)
 
--- an answer can need the info, where these infos of the group come later
+-- the info stays, where these infos of the group come later
 abbrev pub needs_info : GroupLog → List Info → Info → Bool
 needs_info g later info = may_be_heard g later info || tells_last_start g later info || tells_last_clean g later info
 
@@ -65,8 +94,8 @@ abbrev pub replaces_number : Report → ℕ → Report → Bool
 replaces_number report v other =
     is_same_member other.member report.member && nat_le report.stamp other.stamp && has_number v other.log
 
--- an answer can need the report, where these reports of the group come later: it counts, and has an entry of a number that
--- none of them replaces
+-- the report stays, where these reports of the group come later: it counts, and has an entry of a number that none of them
+-- replaces
 abbrev pub needs_report : GroupLog → List Report → Report → Bool
 needs_report g later report =
     is_counted g report.member report.stamp
@@ -81,7 +110,7 @@ infos_in pg entries = filter (λ info. is_same_group info.pg pg) (infos_of entri
 abbrev pub reports_in : PgId → List Entry → List Report
 reports_in pg entries = filter (λ report. is_same_group report.pg pg) (reports_of entries)
 
--- an answer by the log, or by the log with more entries, can need the entry, where these entries of the log come after it
+-- the entry stays, where these entries of the log come after it
 abbrev pub is_needed : List Entry → List Entry → Entry → Bool
 is_needed log later (entry.Inc inc) = true
 is_needed log later (entry.Info info) =
@@ -90,7 +119,7 @@ is_needed log later (entry.Entries report) =
     option_map_or (λ g. needs_report g (reports_in report.pg later) report) (group_in log report.pg) true
 is_needed log later entry.Close = true
 
--- the log with the entries alone that an answer can need
+-- the log with the entries alone that stay
 abbrev pub compacted : List Entry → List Entry
 compacted log = needed_of (is_needed log) log
 

@@ -1,23 +1,27 @@
--- What is kept of a group as one map follows another: where it lies, and when its intervals began (this project's own choice).
-use Rattle.std.specs.Prelude.{◌≡◌, ℕ, List, [], ◌∷◌, ◌++◌, Bool, ◌||◌, true, false, map, Some, None}
+-- What is kept of a group as one map follows another: where it lies, when its current interval began, and in which of its past
+-- intervals clean epochs can matter (this project's own choice).
+use Rattle.std.specs.Prelude.{◌≡◌, ℕ, List, [], Bool, ◌||◌, true, false, Some, None}
 use Rattle.std.specs.List.{list_any}
 use Rattle.pgp_code.specs.AnyCode.{enough_of, is_by_place}
 use Rattle.pgp_code.specs.declared.any.AnyCode.{AnyCode}
 use Rattle.pgp_ids.specs.declared.incremental.Incremental.{Incremental}
+use Rattle.pgp_ids.specs.declared.past.Past.{Past}
 use Rattle.pgp_ids.specs.declared.pg_id.PgId.{PgId}
 use Rattle.pgp_interval.specs.History.{History}
-use Rattle.pgp_interval.specs.Runs.{current_first, past_intervals}
+use Rattle.pgp_interval.specs.Runs.{current_ending, current_first}
 use Rattle.pgp_map.specs.Checked.{are_checked}
 use Rattle.pgp_map.specs.MapFault.{then_with}
 use Rattle.pgp_map.specs.MapOf.{IsMapOf}
 use Rattle.pgp_map.specs.Pools.{has_group, temp}
 use Rattle.pgp_map.specs.declared.map.OsdMap.{OsdMap}
 use Rattle.pgp_sets.specs.Sets.{membership, moves}
-use Rattle.pgp_group.specs.GroupHistory.{group_history}
+use Rattle.pgp_group.specs.GroupHistory.{group_history, primary_facts}
 use Rattle.pgp_group.specs.Touched.{changes_temp, has_osd}
 use Rattle.pgp_log.specs.RawSets.{IsRawSet}
+use Rattle.pgp_compact.specs.Compacted.{past_spans}
 use Rattle.pgp_compact.specs.declared.course.Course.{Course}
 use Rattle.pgp_compact.specs.declared.group_place.GroupPlace.{GroupPlace}
+use Rattle.pgp_compact.specs.declared.span.Span.{Span}
 
 -- ---- where the group lies
 
@@ -40,22 +44,24 @@ may_leave place pg inc =
 
 -- ---- the group's intervals
 
--- the first epochs of the group's intervals, in ascending order
-abbrev pub firsts_of : History AnyCode → List ℕ
-firsts_of h = map (λ p. p.first) (past_intervals enough_of is_by_place [] h) ++ current_first h ∷ []
-
--- the map of these incrementals has the group, which lies so, and whose intervals began in these epochs
-pub record IsUnderWay (incs : List Incremental) (pg : PgId) (firsts : List ℕ) (place : GroupPlace) : Type 0 where
+-- the map of these incrementals has the group, which lies so, whose current interval began in this epoch, and in these past
+-- intervals of which clean epochs can matter, where it last began to serve in the epoch `les`
+pub record IsUnderWay (incs : List Incremental) (pg : PgId) (les first : ℕ) (spans : List Span) (place : GroupPlace) : Type 0 where
   pub history : History AnyCode
   pub history_is : group_history incs pg ≡ Some history
-  pub firsts_are : firsts ≡ firsts_of history
+  pub first_is : first ≡ current_first history
+  pub spans_are : spans ≡ past_spans history les
   pub lies : LiesAt incs pg place
 
 -- what is kept of the group is what these incrementals say of it
 pub record IsCourse (incs : List Incremental) (course : Course) : Type 0 where
   pub absent : course.place ≡ None → has_group incs course.pg ≡ false
-  pub unbegun : course.place ≡ None → course.firsts.items ≡ []
-  pub there : (place : GroupPlace) → course.place ≡ Some place → IsUnderWay incs course.pg course.firsts.items place
+  pub unbegun : course.place ≡ None → course.spans.items ≡ []
+  pub there : (place : GroupPlace) → course.place ≡ Some place → IsUnderWay incs course.pg course.les course.first course.spans.items place
+
+-- the group's current interval as a past one, where the next map ends it
+abbrev pub ended : List Incremental → History AnyCode → Past
+ended incs h = current_ending enough_of is_by_place [] h (primary_facts incs h.current.acting_primary)
 
 -- the incremental comes next, and this is the map after it
 pub record IsNext (incs : List Incremental) (inc : Incremental) (after : OsdMap) : Type 0 where

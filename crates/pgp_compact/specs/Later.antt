@@ -1,5 +1,6 @@
 -- What is kept of the reports that come later, while a log is compacted from its end to its beginning.
 use Rattle.std.specs.Prelude.{ℕ, List, [], ◌∷◌, Bool, ◌&&◌, nat_eq, map, flat_map, option_and_then}
+use Rattle.std.specs.HashMap.{HashMap}
 use Rattle.std.specs.Option.{option_map_or}
 use Rattle.pgp_ids.specs.declared.entry.Entry.{Entry}
 use Rattle.pgp_ids.specs.declared.log_entry.LogEntry.{LogEntry}
@@ -41,11 +42,15 @@ started info = (info.pg, info.history_les)
 abbrev pub opening_at : PgId → ℕ → Opening
 opening_at pg first = record { pg = pg; first = first }
 
--- the interval of the info's last_epoch_clean, by the whole log, if it is of the group's life
+-- the interval of the info's last_epoch_clean, by the whole log, where clean epochs of it can matter
 abbrev pub clean_in : List Entry → Info → List (Opening × ℕ)
 clean_in log info =
-    option_map_or (λ first. (opening_at info.pg first, 0) ∷ [])
+    option_map_or (λ first. (opening_at info.pg first, info.last_epoch_clean) ∷ [])
     (option_and_then (λ g. opening_in g info.last_epoch_clean) (group_in log info.pg)) []
+
+-- of all intervals of all groups in which these infos tell of clean epochs that can matter, the last such epoch is kept
+abbrev pub AreLastCleans : {S : Type 0} → List Entry → List Entry → HashMap Opening ℕ S → Type 0
+AreLastCleans log entries table = IsGreatestOf is_same_opening (flat_map (clean_in log) (infos_of entries)) table
 
 abbrev pub number_of : Report → ℕ → Number
 number_of report v = record { pg = report.pg; osd = report.member.osd; slot = report.member.slot; v = v }
@@ -58,10 +63,12 @@ numbers report = map (written report) report.log
 
 -- ---- what is kept
 
--- the greatest stamp of the infos of each member, the greatest history_les of those of each group, the intervals in which
--- infos tell of a clean epoch, and the greatest stamp of the reports with an entry of each number of each member
+-- the greatest stamp of the infos of each member, the greatest history_les of those of each group, the last clean epoch in each
+-- interval by those that come later and by those of the whole log, and the greatest stamp of the reports with an entry of each
+-- number of each member
 pub record IsLater (log later : List Entry) (kept : Later) : Type 0 where
   pub senders : IsGreatestOf is_same_sender (map sent (infos_of later)) kept.senders.table
   pub starts : IsGreatestOf is_same_group (map started (infos_of later)) kept.starts.table
-  pub openings : IsGreatestOf is_same_opening (flat_map (clean_in log) (infos_of later)) kept.openings.table
+  pub cleans : AreLastCleans log later kept.cleans.table
+  pub all_cleans : AreLastCleans log log kept.all_cleans.table
   pub numbers : IsGreatestOf is_same_number (flat_map numbers (reports_of later)) kept.numbers.table

@@ -1,5 +1,6 @@
 pub mod Needed
 pub mod Compacted
+pub mod Spans
 pub mod Greatest
 pub mod Standing
 pub mod Course

@@ -1,15 +1,15 @@
 -- What the whole log says of a group, as far as it decides which of its reports are needed.
-use Rattle.std.specs.Prelude.{ℕ, ◌+◌, ◌≤◌, Option, Some, None, nat_le, if◌then◌else◌}
+use Rattle.std.specs.Prelude.{ℕ, ◌+◌, ◌≤◌, Option, option_map, find}
 use Rattle.pgp_interval.specs.History.{last_place}
 use Rattle.pgp_interval.specs.Runs.{current_first}
 use Rattle.pgp_group.specs.GroupLog.{GroupLog}
 use Rattle.pgp_group.specs.Heard.{les}
-use Rattle.pgp_compact.specs.Compacted.{opening_epoch}
+use Rattle.pgp_compact.specs.Compacted.{clean_spans, is_within}
 use Rattle.pgp_compact.specs.declared.standing.Standing.{Standing}
 
--- the first epoch of the group's interval that holds this epoch, where the group was there
+-- the first epoch of the group's interval that holds this epoch, where clean epochs of it can matter
 abbrev pub opening_in : GroupLog → ℕ → Option ℕ
-opening_in g epoch = if nat_le g.history.first epoch then Some (opening_epoch g epoch) else None
+opening_in g epoch = option_map (λ span. span.first) (find (is_within epoch) (clean_spans g))
 
 -- the log has reached the epoch
 abbrev pub HasReached : GroupLog → ℕ → Type 0

@@ -1,36 +1,50 @@
 //! The intervals of a group.
 
-ghost use Rattle.std.specs.Prelude.{◌≡◌, ◌≤◌, [], List, None, true, max, option_map, OnOk};
+ghost use Rattle.std.specs.Prelude.{◌≡◌, ◌≤◌, ℕ, [], List, Some, None, true, false, find, max, option_map, OnOk};
+ghost use Rattle.pgp_code.specs.AnyCode.{enough_of, is_by_place};
 ghost use Rattle.pgp_ids.specs.declared.entry.Entry.{Entry as AnyEntry};
 ghost use Rattle.pgp_ids.specs.declared.incremental.Incremental.{Incremental as AnyIncremental};
+ghost use Rattle.pgp_interval.specs.ReadWrite.{can_write, is_recorded};
+ghost use Rattle.pgp_interval.specs.Runs.{current_first};
 ghost use Rattle.pgp_interval.specs.SameMembers.{is_same};
 ghost use Rattle.pgp_map.specs.Map.{epoch};
 ghost use Rattle.pgp_map.specs.MapFault.{then_with};
 ghost use Rattle.pgp_group.specs.Entries.{incs_of};
 ghost use Rattle.pgp_group.specs.GroupLog.{GroupLog, group_in};
+ghost use Rattle.pgp_group.specs.Heard.{les};
 ghost use Rattle.pgp_log.specs.Locate.{IsCheckedMap};
 ghost use Rattle.pgp_log.specs.Log.{is_legal};
-ghost use Rattle.pgp_compact.specs.Course.{IsCourse, IsNext, CanGoOn, firsts_of};
+ghost use Rattle.pgp_log.specs.MapBefore.{IsMapBefore};
+ghost use Rattle.pgp_compact.specs.Compacted.{is_within, past_spans, wants_clean};
+ghost use Rattle.pgp_compact.specs.Course.{IsCourse, IsNext, IsUnderWay, CanGoOn, LiesAt, ended};
 ghost use Rattle.pgp_compact.specs.Courses.{started_by};
+ghost use Rattle.pgp_compact.specs.Spans.{LieApart};
 ghost use Rattle.pgp_compact.specs.Standing.{HasReached, opening_in, standing_at};
+ghost use Rattle.pgp_compact.specs.declared.group_place.GroupPlace.{GroupPlace as AnyPlace};
 
 use super::group_place::GroupPlace;
+use super::span::Span;
 use super::standing::Standing;
-use pgp_ids::{Epoch, Incremental, Membership, PgId};
-use pgp_log::has_group;
+use pgp_code::{AnyCode, Recoverable};
+use pgp_ids::{Epoch, Incremental, Membership, PgId, PrimaryFacts};
+use pgp_interval::acting_slots;
+use pgp_log::{MapBefore, has_group};
 use pgp_map::OsdMap;
 use std::alloc::{AllocError, Global};
 
-/// A group as one map follows another: where it lies, and when each of its intervals began.
+/// A group as one map follows another: where it lies, when its current interval began, and in which of its past intervals clean
+/// epochs can matter.
 #[derive(Drop)]
 pub(crate) struct Course {
     pub(crate) pg: PgId,
-    /// The last epoch in which the group is known to have begun to serve.
+    /// The last epoch in which the group is known to have begun to serve, by the whole log.
     pub(crate) les: Epoch,
     /// Where the group lies by the last map, if that has the group.
     place: Option<GroupPlace>,
-    /// The first epochs of its intervals, in ascending order.
-    firsts: Vec<Epoch>,
+    /// The first epoch of its current interval, if the last map has the group.
+    first: Epoch,
+    /// The past intervals in which clean epochs can matter, in ascending order.
+    spans: Vec<Span>,
 }
 
 impl Course {
@@ -44,11 +58,12 @@ impl Course {
             pg,
             les,
             place: None,
-            firsts: Vec::new(alloc),
+            first: Epoch::new(0),
+            spans: Vec::new(alloc),
         }
     }
 
-    /// The group is known to have begun to serve in this epoch.
+    /// The group is known to have begun to serve in this epoch. No map was taken yet.
     pub(crate) fn start(&mut self, les: Epoch)
         ensures { self.new ≡ record self.old { les = max self.old.les les } }
     {
@@ -57,40 +72,90 @@ impl Course {
 
     /// Takes the next map, which this incremental makes. If the group lies as before, it asks for no placement and takes no
     /// memory. After an `Err` the value must not be used again.
-    pub(crate) fn absorb(&mut self, after: &OsdMap, inc: &Incremental) -> Result<(), AllocError>
+    pub(crate) fn absorb(
+        &mut self,
+        before: &MapBefore,
+        after: &OsdMap,
+        inc: &Incremental,
+    ) -> Result<(), AllocError>
         requires { CanGoOn self.old inc.now after.now }
-        ensures ok { OnOk result ((incs : List AnyIncremental) → IsNext incs inc.now after.now → IsCourse incs self.old
-            → IsCourse (then_with incs inc.now) self.new) }
+        ensures ok { OnOk result ((incs : List AnyIncremental) → IsNext incs inc.now after.now → IsMapBefore incs inc.now before.now
+            → IsCourse incs self.old → IsCourse (then_with incs inc.now) self.new) }
         ensures pg { self.new.pg ≡ self.old.pg }
         ensures les { self.new.les ≡ self.old.les }
     {
         let Some(place) = &self.place else {
-            return self.begin(after);
+            self.begin(after);
+            return Ok(());
         };
         if !place.may_leave(&self.pg, inc) {
             return Ok(());
         }
         let next = place.next(after, &self.pg, inc);
-        if !is_same(&place.members, &next.members) {
-            self.firsts.push(after.epoch())?;
+        if is_same(&place.members, &next.members) {
+            self.place = Some(next);
+            return Ok(());
         }
+        self.leave(before, after, next)
+    }
+
+    /// The current interval ends with the map before, and another begins, in which the group lies there. After an `Err` the value must
+    /// not be used again.
+    fn leave(
+        &mut self,
+        before: &MapBefore,
+        after: &OsdMap,
+        next: GroupPlace,
+    ) -> Result<(), AllocError>
+        ensures ok { OnOk result ((incs : List AnyIncremental) (inc : AnyIncremental) (place : AnyPlace) → IsNext incs inc after.now
+            → IsMapBefore incs inc before.now → self.old.place ≡ Some place → is_same place.members next.members ≡ false
+            → LiesAt (then_with incs inc) self.old.pg next → IsCourse incs self.old → IsCourse (then_with incs inc) self.new) }
+        ensures pg { self.new.pg ≡ self.old.pg }
+        ensures les { self.new.les ≡ self.old.les }
+    {
+        if self.wants_clean(before, after) {
+            self.spans.push(Span {
+                first: self.first,
+                last: before.epoch,
+            })?;
+        }
+        self.first = after.epoch();
         self.place = Some(next);
         Ok(())
     }
 
+    /// Whether clean epochs of the current interval can matter where it ends with the map before.
+    fn wants_clean(&self, before: &MapBefore, after: &OsdMap) -> bool
+        ensures { (incs : List AnyIncremental) (inc : AnyIncremental) (place : AnyPlace) → IsNext incs inc after.now
+            → IsMapBefore incs inc before.now → self.now.place ≡ Some place
+            → (way : IsUnderWay incs self.now.pg self.now.les self.now.first self.now.spans.items place)
+            → result ≡ wants_clean way.history.code self.now.les (ended incs way.history) }
+    {
+        let Some(place) = &self.place else {
+            return true;
+        };
+        let Some(pool) = after.pool(self.pg.pool) else {
+            return true;
+        };
+        if !can_write(&AnyCode::of_pool(pool.kind), &place.members) {
+            return false;
+        }
+        let facts = before.facts(after, place.members.acting_primary);
+        !is_recorded(facts, self.first) || self.les <= before.epoch
+    }
+
     /// The group's life begins, if this map has the group. The map before didn't have it.
-    fn begin(&mut self, after: &OsdMap) -> Result<(), AllocError>
+    fn begin(&mut self, after: &OsdMap)
         requires { IsCheckedMap after.now }
-        ensures ok { OnOk result ((incs : List AnyIncremental) (inc : AnyIncremental) → IsNext incs inc after.now
-            → self.old.place ≡ None → IsCourse incs self.old → IsCourse (then_with incs inc) self.new) }
+        ensures ok { (incs : List AnyIncremental) (inc : AnyIncremental) → IsNext incs inc after.now → self.old.place ≡ None
+            → IsCourse incs self.old → IsCourse (then_with incs inc) self.new }
         ensures pg { self.new.pg ≡ self.old.pg }
         ensures les { self.new.les ≡ self.old.les }
     {
         if has_group(after, &self.pg) {
-            self.firsts.push(after.epoch())?;
+            self.first = after.epoch();
             self.place = Some(GroupPlace::at(after, &self.pg));
         }
-        Ok(())
     }
 
     /// What decides which reports of the group are needed, where an info says that it was clean in the epoch `clean`; `None` if the
@@ -100,29 +165,59 @@ impl Course {
             → self.now.les ≡ started_by log self.now.pg → clean ≤ epoch (incs_of log)
             → result ≡ option_map (standing_at clean) (group_in log self.now.pg) }
     {
-        let firsts = self.firsts.as_slice();
-        if firsts.is_empty() {
+        if self.place.is_none() {
             return None;
         }
         Some(Standing {
-            first: firsts[firsts.len() - 1],
+            first: self.first,
             les: self.les,
-            opening: opening(firsts, clean),
+            opening: self.opening(clean),
         })
+    }
+
+    /// The first epoch of the interval that holds the epoch `clean`, where clean epochs of it can matter.
+    fn opening(&self, clean: Epoch) -> Option<Epoch>
+        ensures { (g : GroupLog) → self.now.first ≡ current_first g.history → self.now.spans.items ≡ past_spans g.history (les g)
+            → HasReached g clean → result ≡ opening_in g clean }
+    {
+        if self.first <= clean {
+            Some(self.first)
+        } else {
+            opening(self.spans.as_slice(), clean)
+        }
     }
 }
 
-/// The first epoch of the interval that holds `epoch`, for a group whose intervals began in these epochs; `None` if the group
-/// wasn't there yet.
-fn opening(firsts: &[Epoch], epoch: Epoch) -> Option<Epoch>
-    ensures { (g : GroupLog) → firsts.now ≡ firsts_of g.history → HasReached g epoch → result ≡ opening_in g epoch }
+/// The first epoch of the one of these intervals that holds the epoch, if one does.
+fn opening(spans: &[Span], epoch: Epoch) -> Option<Epoch>
+    ensures { (from : ℕ) → LieApart from spans.now → result ≡ option_map (λ span. span.first) (find (is_within epoch) spans.now) }
 {
-    let after = firsts.partition_point(|first| *first <= epoch);
+    let after = spans.partition_point(|span| span.first <= epoch);
     if after == 0 {
-        None
-    } else {
-        Some(firsts[after - 1])
+        return None;
     }
+    let span = spans[after - 1];
+    if epoch <= span.last {
+        Some(span.first)
+    } else {
+        None
+    }
+}
+
+/// Whether a group of this code can serve writes with these members.
+fn can_write(code: &AnyCode, members: &Membership) -> bool
+    ensures { result ≡ can_write (enough_of code.now) (is_by_place code.now) members.now }
+{
+    members.acting.osd_count() >= usize::from(members.min_size)
+        && members.acting_primary.is_some()
+        && code.enough(acting_slots(code.by_place(), &members.acting))
+}
+
+/// Whether the primary, of which a map says this, was recorded as up in an interval that began at the epoch `first`.
+fn is_recorded(facts: PrimaryFacts, first: Epoch) -> bool
+    ensures { result ≡ is_recorded facts first }
+{
+    first <= facts.up_thru && facts.up_from <= first
 }
 
 /// Whether the group lies in the same place by both, so that its interval goes on.

@@ -8,12 +8,13 @@ ghost use Rattle.pgp_ids.specs.declared.incremental.Incremental.{Incremental as 
 ghost use Rattle.pgp_map.specs.MapFault.{then_with};
 ghost use Rattle.pgp_map.specs.Pools.{is_same_group};
 ghost use Rattle.pgp_group.specs.GroupOf.{IsSilent};
+ghost use Rattle.pgp_log.specs.MapBefore.{IsMapBefore};
 ghost use Rattle.pgp_compact.specs.Course.{IsNext};
 ghost use Rattle.pgp_compact.specs.Courses.{AreCourses, AreSomeCourses, CanAllGoOn, EachIsCourse, IsCourseIn, IsReportOf, IsSameButCourse};
 
 use super::course::Course;
 use pgp_ids::{Entry, Epoch, Incremental, PgId};
-use pgp_log::moves_none;
+use pgp_log::{MapBefore, moves_none};
 use pgp_map::OsdMap;
 use std::alloc::{AllocError, Global};
 use std::collections::HashMap;
@@ -79,15 +80,20 @@ impl Courses {
 
     /// Takes the next map, which this incremental makes. One that moves no group is passed to none of them. After an `Err` the
     /// value must not be used again.
-    pub(crate) fn absorb(&mut self, after: &OsdMap, inc: &Incremental) -> Result<(), AllocError>
+    pub(crate) fn absorb(
+        &mut self,
+        before: &MapBefore,
+        after: &OsdMap,
+        inc: &Incremental,
+    ) -> Result<(), AllocError>
         requires { CanAllGoOn self.old.all.items inc.now after.now }
         ensures { OnOk result ((incs : List AnyIncremental) (entries : List AnyEntry) → IsNext incs inc.now after.now
-            → AreCourses incs entries self.old → AreCourses (then_with incs inc.now) entries self.new) }
+            → IsMapBefore incs inc.now before.now → AreCourses incs entries self.old → AreCourses (then_with incs inc.now) entries self.new) }
     {
         if moves_none(inc) {
             return Ok(());
         }
-        absorb(self.all.as_mut_slice(), after, inc)
+        absorb(self.all.as_mut_slice(), before, after, inc)
     }
 
     /// The group, if these entries have a report of it.
@@ -110,14 +116,19 @@ impl Courses {
 }
 
 /// Lets each of the groups take the next map, which this incremental makes.
-fn absorb(groups: &mut [Course], after: &OsdMap, inc: &Incremental) -> Result<(), AllocError>
+fn absorb(
+    groups: &mut [Course],
+    before: &MapBefore,
+    after: &OsdMap,
+    inc: &Incremental,
+) -> Result<(), AllocError>
     requires { CanAllGoOn groups.old inc.now after.now }
-    ensures each { OnOk result ((incs : List AnyIncremental) → IsNext incs inc.now after.now → EachIsCourse incs groups.old
-        → EachIsCourse (then_with incs inc.now) groups.new) }
+    ensures each { OnOk result ((incs : List AnyIncremental) → IsNext incs inc.now after.now → IsMapBefore incs inc.now before.now
+        → EachIsCourse incs groups.old → EachIsCourse (then_with incs inc.now) groups.new) }
     ensures same { OnOk result (IsSameButCourse groups.old groups.new) }
 {
     for course in groups.iter_mut() {
-        course.absorb(after, inc)?;
+        course.absorb(before, after, inc)?;
     }
     Ok(())
 }

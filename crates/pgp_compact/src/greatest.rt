@@ -1,6 +1,6 @@
 //! The greatest number that was noted for each key.
 
-ghost use Rattle.std.specs.Prelude.{◌≡◌, [], ◌∷◌, List, ℕ, OnOk};
+ghost use Rattle.std.specs.Prelude.{◌≡◌, ◌+◌, [], ◌∷◌, List, ℕ, OnOk};
 ghost use Rattle.pgp_compact.specs.Greatest.{IsGreatestOf, reaches};
 
 use std::alloc::{AllocError, Global};
@@ -34,6 +34,16 @@ impl<K: Eq + Hash + Drop> Greatest<K> {
     {
         match self.table.get(key) {
             Some(most) => number <= *most,
+            None => false,
+        }
+    }
+
+    /// A greater number was noted for the key.
+    pub(crate) fn exceeds(&self, key: &K, number: u32) -> bool
+        ensures { (noted : List (K × ℕ)) → IsGreatestOf K.eq noted self.now.table → result ≡ reaches K.eq noted key.now (number + 1) }
+    {
+        match self.table.get(key) {
+            Some(most) => number < *most,
             None => false,
         }
     }

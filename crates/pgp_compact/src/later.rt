@@ -8,7 +8,7 @@ ghost use Rattle.pgp_group.specs.GroupLog.{GroupLog, group_in};
 ghost use Rattle.pgp_group.specs.Heard.{les, is_counted};
 ghost use Rattle.pgp_group.specs.Present.{IsPresent};
 ghost use Rattle.pgp_compact.specs.Compacted.{infos_in, reports_in, may_be_heard, tells_last_start, tells_last_clean, needs_info, needs_report, replaces_number};
-ghost use Rattle.pgp_compact.specs.Later.{IsLater, sender_of, opening_at, number_of};
+ghost use Rattle.pgp_compact.specs.Later.{AreLastCleans, IsLater, sender_of, opening_at, number_of};
 ghost use Rattle.pgp_compact.specs.Standing.{standing_at, opening_in};
 
 use super::greatest::Greatest;
@@ -19,12 +19,14 @@ use pgp_ids::{Epoch, Info, LogEntry, PgId, Report};
 use pgp_map::OsdMap;
 use std::alloc::{AllocError, Global};
 
-/// What was sent later: of each member the greatest stamp of its infos, of each group the greatest history_les, the intervals
-/// in which groups were clean, and of each number of each member the greatest stamp of a report with an entry of that number.
+/// What was sent later: of each member the greatest stamp of its infos, of each group the greatest history_les, of each interval
+/// the last clean epoch, where one can matter, and of each number of each member the greatest stamp of a report with an entry of that
+/// number. Beside it stand the last clean epochs by the whole log.
 pub(crate) struct Later {
     senders: Greatest<Sender>,
     starts: Greatest<PgId>,
-    openings: Greatest<Opening>,
+    cleans: Greatest<Opening>,
+    all_cleans: Greatest<Opening>,
     numbers: Greatest<Number>,
 }
 
@@ -33,26 +35,28 @@ impl Drop for Later {
         let Later {
             senders: _,
             starts: _,
-            openings: _,
+            cleans: _,
+            all_cleans: _,
             numbers: _,
         } = self;
     }
 }
 
 impl Later {
-    /// Nothing comes later.
-    pub(crate) fn new(alloc: Global) -> Self
-        ensures { (log : List AnyEntry) → IsLater log [] result }
+    /// Nothing comes later. These are the last clean epochs by the whole log.
+    pub(crate) fn new(alloc: Global, all_cleans: Greatest<Opening>) -> Self
+        ensures { (log : List AnyEntry) → AreLastCleans log log all_cleans.table → IsLater log [] result }
     {
         Later {
             senders: Greatest::new(alloc),
             starts: Greatest::new(alloc),
-            openings: Greatest::new(alloc),
+            cleans: Greatest::new(alloc),
+            all_cleans,
             numbers: Greatest::new(alloc),
         }
     }
 
-    /// Whether an answer can need the info, by what the whole log says of its group.
+    /// Whether the info stays, by what the whole log says of its group.
     pub(crate) fn needs_info(&self, map: &OsdMap, standing: &Standing, info: &Info) -> bool
         ensures { (log later : List AnyEntry) (g : GroupLog) → IsLater log later self.now → group_in log info.now.pg ≡ Some g
             → IsPresent g map.now standing.now.first → standing.now ≡ standing_at info.now.last_epoch_clean g
@@ -92,20 +96,22 @@ impl Later {
         !self.starts.reaches(&info.pg, start.number())
     }
 
-    /// Whether it is the last info that says that the group was clean in one of its intervals.
+    /// Whether it tells of the last clean epoch in one of the group's intervals in which one can matter, and no later info of the same.
     fn tells_last_clean(&self, standing: &Standing, info: &Info) -> bool
         ensures { (log later : List AnyEntry) (g : GroupLog) → IsLater log later self.now → group_in log info.now.pg ≡ Some g
             → standing.now.opening ≡ opening_in g info.now.last_epoch_clean
             → result ≡ tells_last_clean g (infos_in info.now.pg later) info.now }
     {
-        match standing.opening {
-            Some(first) => !self.openings.reaches(&opening_at(info.pg, first), 0),
-            None => false,
-        }
+        let Some(first) = standing.opening else {
+            return false;
+        };
+        let interval = opening_at(info.pg, first);
+        let clean = info.last_epoch_clean.number();
+        !self.all_cleans.exceeds(&interval, clean) && !self.cleans.reaches(&interval, clean)
     }
 
     /// Takes note of an info that comes before all of these; `opening` is the first epoch of the interval of its
-    /// last_epoch_clean, by the whole log.
+    /// last_epoch_clean, by the whole log, where a clean epoch of it can matter.
     pub(crate) fn note_info(
         &mut self,
         info: &Info,
@@ -117,13 +123,10 @@ impl Later {
     {
         self.senders.note(sender_of(info), info.stamp.number())?;
         self.starts.note(info.pg, info.history_les.number())?;
-        match opening {
-            Some(first) => self.openings.note(opening_at(info.pg, first), 0),
-            None => Ok(()),
-        }
+        note_clean(&mut self.cleans, info, opening)
     }
 
-    /// Whether an answer can need the report of log entries, where the group's current interval began in the epoch `first`.
+    /// Whether the report of log entries stays, where the group's current interval began in the epoch `first`.
     pub(crate) fn needs_report(&self, map: &OsdMap, first: Epoch, report: &Report) -> bool
         ensures { (log later : List AnyEntry) (g : GroupLog) → IsLater log later self.now → IsPresent g map.now first
             → result ≡ needs_report g (reports_in report.now.pg later) report.now }
@@ -163,6 +166,23 @@ impl Later {
                 .note(number_of(report, entry), report.stamp.number())?;
         }
         Ok(())
+    }
+}
+
+/// Takes note of the info's last_epoch_clean, which is of the group's interval that opened at `opening`, if of any in which it can
+/// matter.
+pub(crate) fn note_clean(
+    cleans: &mut Greatest<Opening>,
+    info: &Info,
+    opening: Option<Epoch>,
+) -> Result<(), AllocError>
+    ensures { OnOk result ((log later : List AnyEntry) → AreLastCleans log later cleans.old.table
+        → opening ≡ option_and_then (λ g. opening_in g info.now.last_epoch_clean) (group_in log info.now.pg)
+        → AreLastCleans log (entry.Info info.now ∷ later) cleans.new.table) }
+{
+    match opening {
+        Some(first) => cleans.note(opening_at(info.pg, first), info.last_epoch_clean.number()),
+        None => Ok(()),
     }
 }
 

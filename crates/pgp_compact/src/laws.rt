@@ -6,10 +6,13 @@ ghost use Rattle.pgp_ids.specs.declared.pg_id.PgId.{PgId};
 ghost use Rattle.pgp_ids.specs.declared.refusal.Refusal.TheVariants.{LogFull};
 ghost use Rattle.pgp_map.specs.Checked.{are_checked};
 ghost use Rattle.pgp_group.specs.Entries.{incs_of};
+ghost use Rattle.pgp_group.specs.GroupLog.{GroupLog, group_in};
 ghost use Rattle.pgp_group.specs.Interleaving.{with_count};
 ghost use Rattle.pgp_group.specs.View.{scratch};
 ghost use Rattle.pgp_log.specs.Fits.{entry_fault, fits, is_closed, longest_log};
 ghost use Rattle.pgp_log.specs.Log.{is_legal};
+ghost use Rattle.pgp_reasons.specs.Reasons.{AreReasons};
+ghost use Rattle.pgp_reasons.specs.declared.reasons.Reasons.{Reasons};
 ghost use Rattle.pgp_compact.specs.Compacted.{compacted};
 
 use pgp_group::laws::later::what_does_not_count_never_counts_again;
@@ -38,6 +41,21 @@ pub fn every_answer_is_the_same()
     pgp_log::laws::legal_logs_are_checked_and_short();
 }
 
+/// What is said of why a group doesn't serve, and of what would bring it back, is the same in every field by the log and by the
+/// compacted one, now and after whatever entries follow, of which each incremental was checked when it came: whom it has heard, the
+/// intervals that block it, with the last clean epoch of each, the smallest sets of devices that bring it back, what its acting set
+/// lacks, and the writes that the best copy's log lacks.
+pub fn every_reason_is_the_same()
+    ensures kept { (log more : List Entry) (pg : PgId) (whole less : GroupLog) (reasons : Reasons) → is_legal log ≡ true
+        → are_checked (incs_of (log ++ more)) ≡ true → group_in (log ++ more) pg ≡ Some whole → group_in (compacted log ++ more) pg ≡ Some less
+        → AreReasons whole reasons → AreReasons less reasons }
+    ensures told { (log more : List Entry) (pg : PgId) (whole less : GroupLog) (reasons : Reasons) → is_legal log ≡ true
+        → are_checked (incs_of (log ++ more)) ≡ true → group_in (log ++ more) pg ≡ Some whole → group_in (compacted log ++ more) pg ≡ Some less
+        → AreReasons less reasons → AreReasons whole reasons }
+{
+    what_does_not_count_never_counts_again();
+}
+
 /// What may follow the log may follow the compacted one. The next entry is taken or refused alike, with the same reason, except
 /// that the compacted log may have room where the whole one is full. There too both are closed or neither is, and by its map each
 /// finds the same wrong with an entry: the compacted log takes one with which nothing is wrong as long as it has room. The map stays
@@ -58,3 +76,12 @@ pub fn what_follows_is_taken_alike()
 pub fn compacting_twice_is_compacting_once()
     ensures { (log : List Entry) → compacted (compacted log) ≡ compacted log }
 {}
+
+/// Compacting a compacted log to which entries were added is compacting the whole log with them, whatever they are, if each
+/// incremental was checked when it came. So a log that is compacted from time to time is no longer than one that is compacted once.
+pub fn compacting_as_one_goes_is_compacting_once()
+    ensures { (log more : List Entry) → is_legal log ≡ true → are_checked (incs_of (log ++ more)) ≡ true
+        → compacted (compacted log ++ more) ≡ compacted (log ++ more) }
+{
+    what_does_not_count_never_counts_again();
+}

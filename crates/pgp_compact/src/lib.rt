@@ -1,8 +1,8 @@
-//! Logs without the reports that no answer can need any more.
+//! Logs without reports that no answer needs any more.
 //!
-//! A log takes 65,535 entries, and most of a full one no longer matters. This crate decides which of its entries an answer
-//! can need, now or after whatever entries follow: all incrementals, a Close, and of the reports those that nothing later
-//! makes needless. Its laws say that every answer stays the same.
+//! A log takes 65,535 entries, and most of a full one no longer matters. This crate decides which of its entries stay: all
+//! incrementals, a Close, and of the reports those that neither the maps nor other reports make needless. Its laws say that
+//! without the others every answer is the same, now and after whatever entries follow. They don't say that fewer wouldn't do.
 #![tactic(auto)]
 
 mod course;
@@ -12,6 +12,7 @@ mod group_place;
 mod keys;
 mod later;
 pub mod laws;
+mod span;
 mod standing;
 mod walk;
 mod whole;

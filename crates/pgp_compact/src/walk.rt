@@ -1,4 +1,4 @@
-//! A log without the reports that no answer can need.
+//! A log without reports that no answer needs any more.
 
 ghost use Rattle.std.specs.Prelude.{◌≡◌, ◌++◌, ◌∷◌, [], true, map, if◌then◌else◌, IfOk, OnOk};
 ghost use Rattle.std.specs.Arc.{arc_value};
@@ -11,7 +11,7 @@ use pgp_ids::Entry;
 use std::alloc::{AllocError, Global};
 use std::sync::Arc;
 
-/// The entries of a legal log that an answer can need, by it or by whatever follows it, in their order.
+/// The entries of a legal log that stay when it is compacted, in their order.
 pub fn compact(alloc: Global, entries: &[Arc<Entry>]) -> Result<Vec<Arc<Entry>>, AllocError>
     requires { is_legal (map arc_value entries.now) ≡ true }
     ensures { IfOk result (λ kept. map arc_value kept.items ≡ compacted (map arc_value entries.now)) }
@@ -24,15 +24,15 @@ pub fn compact(alloc: Global, entries: &[Arc<Entry>]) -> Result<Vec<Arc<Entry>>,
     Ok(kept)
 }
 
-/// Of each entry of a legal log whether an answer can need it, by the log or by whatever follows it.
+/// Of each entry of a legal log whether it stays when the log is compacted.
 ///
-/// It goes once over the log from its end, and looks at each entry of a report once.
+/// It goes over the log from its end, and looks at each entry of a report once.
 pub fn needed(alloc: Global, entries: &[Arc<Entry>]) -> Result<Vec<bool>, AllocError>
     requires { is_legal (map arc_value entries.now) ≡ true }
     ensures { IfOk result (λ choices. choices.items ≡ are_needed_in (map arc_value entries.now)) }
 {
     let whole = Whole::of(alloc, entries)?;
-    let mut later = Later::new(alloc);
+    let mut later = Later::new(alloc, whole.last_cleans(alloc, entries)?);
     let mut choices = Vec::new(alloc);
     for step in 0..entries.len() {
         let entry = &entries[entries.len() - 1 - step];

@@ -11,14 +11,17 @@ ghost use Rattle.pgp_group.specs.GroupLog.{group_in};
 ghost use Rattle.pgp_log.specs.Log.{is_legal};
 ghost use Rattle.pgp_compact.specs.Compacted.{is_needed};
 ghost use Rattle.pgp_compact.specs.Courses.{HasReport};
-ghost use Rattle.pgp_compact.specs.Later.{IsLater};
+ghost use Rattle.pgp_compact.specs.Later.{AreLastCleans, IsLater};
 ghost use Rattle.pgp_compact.specs.Standing.{standing_at};
 ghost use Rattle.pgp_compact.specs.Whole.{IsWhole, HasRead, CanRead};
 
 use super::courses::Courses;
-use super::later::Later;
+use super::greatest::Greatest;
+use super::keys::Opening;
+use super::later::{Later, note_clean};
 use super::standing::Standing;
 use pgp_ids::{Entry, Epoch, Info, PgId, Report};
+use pgp_log::MapBefore;
 use pgp_map::OsdMap;
 use std::alloc::{AllocError, Global};
 use std::sync::Arc;
@@ -46,21 +49,22 @@ impl Whole {
             courses: Courses::of(alloc, entries)?,
         };
         for entry in entries {
-            whole.read(entry)?;
+            whole.read(alloc, entry)?;
         }
         Ok(whole)
     }
 
     /// Reads the next entry of the log, for its map. After an `Err` the value must not be used again.
-    fn read(&mut self, entry: &Entry) -> Result<(), AllocError>
+    fn read(&mut self, alloc: Global, entry: &Entry) -> Result<(), AllocError>
         requires { CanRead self.old entry.now }
         ensures { OnOk result ((log front : List AnyEntry) → is_legal (front ++ entry.now ∷ []) ≡ true → HasRead log front self.old
             → HasRead log (front ++ entry.now ∷ []) self.new) }
     {
         match entry {
             Entry::Inc(inc) => {
+                let before = MapBefore::of(alloc, &self.map, inc)?;
                 self.map.apply(inc)?;
-                self.courses.absorb(&self.map, inc)
+                self.courses.absorb(&before, &self.map, inc)
             }
             Entry::Info(_) => Ok(()),
             Entry::Entries(_) => Ok(()),
@@ -68,7 +72,39 @@ impl Whole {
         }
     }
 
-    /// Whether an answer can need the entry of the log, where `later` has taken note of those after it. `later` then takes note
+    /// The last clean epoch in each interval of each group in which clean epochs can matter, by the infos of the log. It goes over the
+    /// log once.
+    pub(crate) fn last_cleans(
+        &self,
+        alloc: Global,
+        entries: &[Arc<Entry>],
+    ) -> Result<Greatest<Opening>, AllocError>
+        requires { IsWhole (map arc_value entries.now) self.now }
+        ensures { IfOk result (λ cleans. AreLastCleans (map arc_value entries.now) (map arc_value entries.now) cleans.table) }
+    {
+        let mut cleans = Greatest::new(alloc);
+        for step in 0..entries.len() {
+            let entry = &entries[entries.len() - 1 - step];
+            self.note_clean(&mut cleans, entry)?;
+        }
+        Ok(cleans)
+    }
+
+    /// Notes the clean epoch of which the entry of the log tells, if it can matter, beside those of the entries after it.
+    fn note_clean(&self, cleans: &mut Greatest<Opening>, entry: &Entry) -> Result<(), AllocError>
+        ensures { OnOk result ((log later : List AnyEntry) → IsWhole log self.now → Contains log entry.now
+            → AreLastCleans log later cleans.old.table → AreLastCleans log (entry.now ∷ later) cleans.new.table) }
+    {
+        let Entry::Info(info) = entry else {
+            return Ok(());
+        };
+        let Some(standing) = self.standing(&info.pg, info.last_epoch_clean) else {
+            return Ok(());
+        };
+        note_clean(cleans, info, standing.opening)
+    }
+
+    /// Whether the entry of the log stays, where `later` has taken note of those after it. `later` then takes note
     /// of this entry too.
     pub(crate) fn needs(&self, later: &mut Later, entry: &Entry) -> Result<bool, AllocError>
         ensures needed { IfOk result (λ needed. (log done : List AnyEntry) → IsWhole log self.now → IsLater log done later.old

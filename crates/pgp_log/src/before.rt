@@ -21,8 +21,8 @@ use std::alloc::{AllocError, Global};
 /// epoch, what it said as primaries of the devices that the incremental boots, or of whose up_thru it tells, and the weights of
 /// those that the incremental weighs. Of every other device both maps say the same.
 #[derive(Drop)]
-pub(crate) struct MapBefore {
-    pub(crate) epoch: Epoch,
+pub struct MapBefore {
+    pub epoch: Epoch,
     devices: Vec<DeviceFacts>,
     weights: Vec<DeviceWeight>,
 }
@@ -39,7 +39,7 @@ const MOST_TESTED: usize = 16;
 
 impl MapBefore {
     /// What the map says, which is to take the incremental next.
-    pub(crate) fn of(alloc: Global, map: &OsdMap, inc: &Incremental) -> Result<Self, AllocError>
+    pub fn of(alloc: Global, map: &OsdMap, inc: &Incremental) -> Result<Self, AllocError>
         ensures { IfOk result (λ before. (incs : List AnyIncremental) → IsMapOf incs map.now → IsMapBefore incs inc.now before) }
     {
         let mut devices = Vec::new(alloc);
@@ -95,7 +95,7 @@ impl MapBefore {
     }
 
     /// What that map said of an acting primary. `after` is the map with the incremental.
-    pub(crate) fn facts(&self, after: &OsdMap, primary: Option<OsdId>) -> PrimaryFacts
+    pub fn facts(&self, after: &OsdMap, primary: Option<OsdId>) -> PrimaryFacts
         ensures { (incs : List AnyIncremental) (inc : AnyIncremental) → IsMapBefore incs inc self.now
             → IsMapOf (then_with incs inc) after.now → result ≡ primary_facts incs primary }
     {

@@ -28,6 +28,7 @@ mod shard;
 mod touch;
 mod world;
 
+pub use before::MapBefore;
 pub use entry::{inc_of, is_close};
 pub use judge::{Judge, LONGEST_LOG};
 pub use judged_log::JudgedLog;

@@ -8,7 +8,7 @@ next-is groups old i item within is rest = grind (arith, rest i, slice_get_read 
 
 pub loop-course-init : goal.loop-course-init
 loop-course-init c = record {
-  done = λ incs next each place course below at. absurd (omega arith);
+  done = λ incs next before each place course below at. absurd (omega arith);
   rest = λ place from. refl;
   same = record { there = λ place course at. (course, at, refl, refl) };
 }
@@ -26,9 +26,9 @@ loop-course-preserved c =
     let first = next-is groups c.args.groups.now i item within c.course-item.is c.loop-course.invariant.rest in
     let stands = get-set_same groups i new within in
     record {
-      done = λ incs next each place course below there. elim (cases_lt place i) [
-        | inl earlier ↦ c.loop-course.invariant.done incs next each place course earlier (grind (arith, get-set_other groups i place new))
-        | inr past ↦ let here : place ≡ i = omega arith in grind (arith, stands, c.in_ok-absorb.ensures.ok incs next, each i item first)
+      done = λ incs next before each place course below there. elim (cases_lt place i) [
+        | inl earlier ↦ c.loop-course.invariant.done incs next before each place course earlier (grind (arith, get-set_other groups i place new))
+        | inr past ↦ let here : place ≡ i = omega arith in grind (arith, stands, c.in_ok-absorb.ensures.ok incs next before, each i item first)
       ];
       rest = λ place from. grind (arith, get-set_other groups i place new, c.loop-course.invariant.rest place);
       same = record {
@@ -42,6 +42,6 @@ loop-course-preserved c =
     }
 
 pub returns-clause-each : goal.returns-clause-each
-returns-clause-each c = λ incs next each place course at.
+returns-clause-each c = λ incs next before each place course at.
     let below : place < length c.loop-course.groups = slice_get_within c.loop-course.groups place course at in
-    c.loop-course.invariant.done incs next each place course (omega (arith, below, c.loop-course-test.false, c.loop-course.auto.groups)) at
+    c.loop-course.invariant.done incs next before each place course (omega (arith, below, c.loop-course-test.false, c.loop-course.auto.groups)) at

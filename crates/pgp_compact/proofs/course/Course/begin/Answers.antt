@@ -5,9 +5,10 @@ use Rattle.pgp_compact.proofs.course.Course.begin.Goals as goal
 pub at-requires : goal.at-requires
 at-requires c = grind (arith, checked-has_group, c.has_group.ensures)
 
-pub returns-in_ok-push-clause-ok : goal.returns-in_ok-push-clause-ok
-returns-in_ok-push-clause-ok c = λ incs inc next none is.
+pub returns-then-has_group-clause-ok : goal.returns-then-has_group-clause-ok
+returns-then-has_group-clause-ok c = λ incs inc next none is.
     let later = then_with incs inc in
-    let there : has_group later c.args.self.now.pg ≡ true = sym (c.has_group.ensures later next.after_is) ∙ c.if-has_group.true in
-    let way = begins incs inc c.args.after.now next c.args.self.now.pg c.at.result (is.absent none) there (c.at.ensures later next.after_is) in
-    under-way later _ c.at.result refl (grind (arith, way, c.in_ok-push.ensures.items, is.unbegun none, c.epoch.ensures later next.after_is))
+    let now = c.args.self.now in
+    let there : has_group later now.pg ≡ true = sym (c.has_group.ensures later next.after_is) ∙ c.if-has_group.true in
+    let way = begins incs inc c.args.after.now next now.pg now.les c.at.result (is.absent none) there (c.at.ensures later next.after_is) in
+    under-way later _ c.at.result refl (grind (arith, way, is.unbegun none, c.epoch-self.ensures later next.after_is))

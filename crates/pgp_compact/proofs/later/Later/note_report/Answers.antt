@@ -9,7 +9,8 @@ loop-entry-preserved c =
     let note = written c.args.report.now in record {
       senders = c.loop-entry.invariant.senders;
       starts = c.loop-entry.invariant.starts;
-      openings = c.loop-entry.invariant.openings;
+      cleans = c.loop-entry.invariant.cleans;
+      all_cleans = c.loop-entry.invariant.all_cleans;
       numbers = λ rest is.
           let noted = c.in_ok-note.ensures (map note (take i entries) ++ rest) (c.loop-entry.invariant.numbers rest is) in
           noted-next is_same_number note entries i c.entry-item.result rest c.note.new.self.table c.loop-entry-test.true c.entry-item.is

@@ -16,8 +16,9 @@ absorb-requires c =
 
 pub returns-in_ok-apply-in-Inc : goal.returns-in_ok-apply-in-Inc
 returns-in_ok-apply-in-Inc c = on_ok c.absorb.result _ _ (λ goes log front legal is.
+    let before = c.in_ok-before-in-Inc.ensures (incs_of front) is.map_is in
     let next = comes-next front c.args.entry.now c.in-Inc.is legal is.map_is c.in_ok-apply-in-Inc.ensures.ok in
-    grind (arith, incs-inc front c.args.entry.now c.in-Inc.inc, goes (incs_of front) log next is.courses_are)) c.absorb.ensures
+    grind (arith, incs-inc front c.args.entry.now c.in-Inc.inc, goes (incs_of front) log next before is.courses_are)) c.absorb.ensures
 
 pub returns-in-Info : goal.returns-in-Info
 returns-in-Info c = λ log front legal is. read-other log front c.args.entry.now c.args.self.now (ap inc_of c.in-Info.is) is

@@ -1,0 +1,137 @@
+-- What is said of the reasons of a group is the same by a log and by the same log compacted.
+use Rattle.pgp_compact.proofs.Common.{AnyCode, Bool, Contains, Entry, GroupLog, History, Incremental, Info, List, None, Option, Past, PgId, Some, Span, [], ap, are_checked, arith, best, can_write, compacted, ends_at, enough_of, epoch, false, filter, filter-contains, fold, group_history, group_in, group_with, heard, if◌then◌else◌, incs, incs_of, infos, inr, is_by_place, is_clean_from, is_recorded, les, list_any, map, map-agree, map-contains, map_some, max, nat_le, nat_tests, not, option_map_or, past, past_ending, past_ends, prior, refl, reported, same_Some, state_at, subst, sym, true, true≢false, wants_clean, was_clean, ℕ, ◌&&◌, ◌++◌, ◌||◌, ◌∙◌, ◌∷◌, ◌≡◌, ◌≤◌}
+use Rattle.pgp_compact.proofs.GoneOnLemmas.{IsSent, NeverCountsAgain, best-alike, clean-alike, heard-same, incs-alike, les-alike, less, numbers-alike, past-alike, prior-alike, whole}
+use Rattle.pgp_compact.proofs.IntervalLemmas.{span_ending}
+use Rattle.pgp_compact.proofs.PartLemmas.{clean_of, incs-gone_on}
+use Rattle.pgp_prior.specs.Blocks.{blocks}
+use Rattle.pgp_prior.specs.Prior.{is_group_down}
+use Rattle.pgp_prior.specs.declared.prior_set.Prior.{Prior}
+use Rattle.pgp_reasons.specs.Blocking.{blocking_by, greatest, is_in_interval, last_within}
+use Rattle.pgp_reasons.specs.Gaps.{runs_lacked}
+use Rattle.pgp_reasons.specs.GroupWays.{ways}
+use Rattle.pgp_reasons.specs.Reasons.{AreReasons, blocking, gaps, short}
+use Rattle.pgp_reasons.specs.Short.{short_of}
+use Rattle.pgp_reasons.specs.Smallest.{AreSome, smallest}
+use Rattle.pgp_reasons.specs.Ways.{status_after}
+use Rattle.pgp_reasons.specs.declared.blocking.Blocking.{Blocking}
+use Rattle.pgp_reasons.specs.declared.reasons.Reasons.{Reasons}
+use Rattle.pgp_reasons.specs.declared.ways.Way.{Way}
+use Rattle.pgp_reasons.specs.declared.ways.Way.TheVariants.{Start, GiveUp}
+use Rattle.pgp_sets.specs.Status.{status}
+use Rattle.pgp_sets.specs.declared.status.Status.{Status}
+
+-- ---- the last clean epoch of an interval
+
+reaches-greatest : (n epoch : ℕ) (epochs : List ℕ) → nat_le n (fold max epoch epochs) ≡ (nat_le n epoch || list_any (nat_le n) epochs)
+reaches-greatest n epoch [] = grind (arith, nat_tests)
+reaches-greatest n epoch (other ∷ epochs) = grind (arith, nat_tests, reaches-greatest n (max epoch other) epochs)
+
+-- two lists of which each reaches what the other does have the same greatest element
+greatest-same : (xs ys : List ℕ) → ((n : ℕ) → list_any (nat_le n) xs ≡ list_any (nat_le n) ys) → greatest xs ≡ greatest ys
+greatest-same [] [] same = refl
+greatest-same [] (y ∷ ys) same = absurd (true≢false (sym (grind (arith, nat_tests, same 0))))
+greatest-same (x ∷ xs) [] same = absurd (true≢false (grind (arith, nat_tests, same 0)))
+greatest-same (x ∷ xs) (y ∷ ys) same =
+    let a : ℕ = fold max x xs in
+    let b : ℕ = fold max y ys in
+    let up : a ≤ b = grind (arith, nat_tests, same a, reaches-greatest a x xs, reaches-greatest a y ys) in
+    let down : b ≤ a = grind (arith, nat_tests, same b, reaches-greatest b x xs, reaches-greatest b y ys) in
+    let one : a ≡ b = omega (arith, up, down) in
+    ap Some one
+
+within-are : (interval : Past) (span : Span) → interval.first ≡ span.first → interval.last ≡ span.last → (n : ℕ) (told : List Info)
+    → list_any (nat_le n) (filter (is_in_interval interval) (map clean_of told)) ≡ list_any (is_clean_from span n) told
+within-are interval span first last n [] = refl
+within-are interval span first last n (info ∷ told) = grind (arith, nat_tests, within-are interval span first last n told)
+
+-- where the flag is raised and the group didn't begin to serve since, clean epochs can matter
+flag-wants : (can recorded clean since : Bool) → (can && (recorded || clean)) ≡ true → since ≡ true → (can && (not (can && (recorded || false)) || since)) ≡ true
+flag-wants can recorded clean since flag is = grind (arith, nat_tests)
+
+-- ---- all that is said
+
+reasons-by : (a b : GroupLog) → heard a ≡ heard b → blocking a ≡ blocking b → prior a ≡ prior b → ((way : Way) → ways way a ≡ ways way b) → short a ≡ short b → gaps a ≡ gaps b
+    → (reasons : Reasons) → AreReasons a reasons → AreReasons b reasons
+reasons-by a b heard-is blocking-is prior-is ways-are short-is gaps-is reasons are = record {
+  heard_is = are.heard_is ∙ heard-is;
+  blocking_is = are.blocking_is ∙ blocking-is;
+  starts_are = subst (λ (all : List (List ℕ)). AreSome (prior b).blocked_by all reasons.starts.sets reasons.starts.more) (ways-are Start)
+      (subst (λ (p : Prior). AreSome p.blocked_by (ways Start a) reasons.starts.sets reasons.starts.more) prior-is are.starts_are);
+  losses_are = subst (λ (all : List (List ℕ)). AreSome (prior b).blocked_by all reasons.losses.sets reasons.losses.more) (ways-are GiveUp)
+      (subst (λ (p : Prior). AreSome p.blocked_by (ways GiveUp a) reasons.losses.sets reasons.losses.more) prior-is are.losses_are);
+  short_is = are.short_is ∙ short-is;
+  gaps_is = are.gaps_is ∙ gaps-is;
+}
+
+module _ (never : NeverCountsAgain) (log more : List Entry) (pg : PgId) (after : History AnyCode) (checked : are_checked (incs_of (log ++ more)) ≡ true)
+    (then' : group_history (incs_of (log ++ more)) pg ≡ Some after) (sent : IsSent log) where
+  abbrev old : GroupLog
+  old = whole never log more pg after checked then' sent
+
+  abbrev new : GroupLog
+  new = less never log more pg after checked then' sent
+
+  same-incs : incs old ≡ incs new
+  same-incs = sym (incs-alike never log more pg after checked then' sent)
+
+  same-les : les old ≡ les new
+  same-les = les-alike never log more pg after checked then' sent
+
+  same-past : past old ≡ past new
+  same-past = past-alike never log more pg after checked then' sent
+
+  same-prior : prior old ≡ prior new
+  same-prior = prior-alike never log more pg after checked then' sent
+
+  same-ways : (way : Way) → ways way old ≡ ways way new
+  same-ways way = λ i. if (same-prior i).down
+      then smallest (λ osds. not (is_group_down (enough_of after.code) (is_by_place after.code) (status_after way osds (status (same-incs i))) (same-les i) (same-past i))) (same-prior i).blocked_by
+      else []
+
+  same-short : short old ≡ short new
+  same-short = λ i. short_of after.code (status (same-incs i)) (same-les i) (same-past i) after.current.acting
+
+  same-gaps : gaps old ≡ gaps new
+  same-gaps = λ i. option_map_or (λ info. runs_lacked (λ v. numbers-alike never log more pg after checked then' sent info.member v i) info.log_tail.v info.last_update.v)
+      (best-alike never log more pg after checked then' sent i) []
+
+  abbrev cleans_of : GroupLog → List ℕ
+  cleans_of g = map clean_of (infos g)
+
+  -- of an interval that blocks
+  same-blocking-one : (st : ℕ → ℕ → Status) (p : Past) → Contains (past old) p → blocks (enough_of after.code) (is_by_place after.code) st (les old) p ≡ true
+      → blocking_by after.code st (cleans_of old) p ≡ blocking_by after.code st (cleans_of new) p
+  same-blocking-one st p there blocks' =
+      let found = map-contains (past_ending enough_of is_by_place (cleans_of old) after) (past_ends after) p there in
+      let last : ℕ = found.0 in
+      let span : Span = span_ending after last in
+      let ends = (filter-contains (ends_at after) _ last found.1.0).1 in
+      let first-is : p.first ≡ span.first = ap (λ (q : Past). q.first) (sym found.1.1) in
+      let last-is : p.last ≡ span.last = ap (λ (q : Past). q.last) (sym found.1.1) in
+      let raised : p.rw ≡ true = grind (arith, nat_tests) in
+      let since : nat_le (les old) p.last ≡ true = grind (arith, nat_tests) in
+      let flag = ap (λ (q : Past). q.rw) found.1.1 ∙ raised in
+      let wants : wants_clean after.code (les old) (past_ending enough_of is_by_place [] after last) ≡ true =
+      flag-wants (can_write (enough_of after.code) (is_by_place after.code) (state_at after last).members) (is_recorded (state_at after last).facts span.first)
+      (was_clean (cleans_of old) span.first span.last) (nat_le (les old) span.last) flag (ap (nat_le (les old)) (sym last-is) ∙ since) in
+      let clean : last_within p (cleans_of old) ≡ last_within p (cleans_of new) =
+      greatest-same (filter (is_in_interval p) (cleans_of old)) (filter (is_in_interval p) (cleans_of new))
+      (λ n. within-are p span first-is last-is n (infos old) ∙ clean-alike never log more pg after checked then' sent last n (inr (ends, wants)) ∙ sym (within-are p span first-is last-is n (infos new))) in
+      λ i. record (blocking_by after.code st (cleans_of old) p) { clean = clean i }
+
+  same-blocking : blocking old ≡ blocking new
+  same-blocking =
+      let st : ℕ → ℕ → Status = status (incs old) in
+      let blocks' : Past → Bool = blocks (enough_of after.code) (is_by_place after.code) st (les old) in
+      map-agree (blocking_by after.code st (cleans_of old)) (blocking_by after.code st (cleans_of new)) (filter blocks' (past old))
+      (λ p there. let kept = filter-contains blocks' (past old) p there in same-blocking-one st p kept.0 kept.1)
+      ∙ (λ i. map (blocking_by after.code (status (same-incs i)) (cleans_of new))
+      (filter (blocks (enough_of after.code) (is_by_place after.code) (status (same-incs i)) (same-les i)) (same-past i)))
+
+  pub same-reasons : (reasons : Reasons) → AreReasons old reasons → AreReasons new reasons
+  same-reasons =
+      reasons-by old new (heard-same never log more pg after checked then' sent) same-blocking same-prior same-ways same-short same-gaps
+
+  pub reasons-same : (reasons : Reasons) → AreReasons new reasons → AreReasons old reasons
+  reasons-same =
+      reasons-by new old (sym (heard-same never log more pg after checked then' sent)) (sym same-blocking) (sym same-prior) (λ way. sym (same-ways way)) (sym same-short) (sym same-gaps)
