@@ -7,7 +7,8 @@ A generated script is cut at a few places. At each, what `compact` wrote at the 
 compacted. What it writes has to be what the model keeps of the whole script up to there, byte for byte; the line on standard
 error has to say how much that is; and compacted once more it has to stay. Then `run` has to answer all lines after the cut as it
 does in the whole script, except that each count is less by the entries that were left out. Questions about groups with reports
-stand at each cut and at the end.
+stand at each cut and at the end. And `explain --json` has to say of these groups, and of all groups, what it says of the whole
+script.
 
 The same seed gives the same scripts. --under puts words before the program, such as "valgrind -q --error-exitcode=99". A script
 with something wrong is kept in the folder that --keep names, with what was given to the program, what it wrote and what it should
@@ -27,11 +28,13 @@ import time
 from typing import Callable, Counter, Iterator, List, NamedTuple, Optional, Sequence, Tuple
 
 import compaction
+import explain
 import fuzz
 import grammar
 import hostile
 import lines
 import model
+from maps import Group
 
 ENTRIES = ("inc", "info", "entries", "close")
 LOG_FULL = 50
@@ -106,6 +109,7 @@ class Cut(NamedTuple):
     entries: int  # of the log
     kept: List[bytes]  # lines that stay
     answers: List[bytes]  # to these, in the whole script
+    groups: List[str]  # that have reports, a few of them
 
 
 def crowd(rng: random.Random, others: List[bytes]) -> fuzz.Script:
@@ -133,10 +137,14 @@ def places(rng: random.Random, script: fuzz.Script) -> List[int]:
     return sorted(found | ({last} if rng.random() < 0.3 else set()))
 
 
-def questions(rng: random.Random, log: model.Model) -> List[bytes]:
-    """Questions about a few of the groups that have reports."""
+def some_groups(rng: random.Random, log: model.Model) -> List[Group]:
+    """A few of the groups that have reports."""
     groups = sorted(log.reports)
-    return [grammar.compact({"op": "ask", "pg": group}) for group in rng.sample(groups, min(len(groups), MOST_ASKED))]
+    return rng.sample(groups, min(len(groups), MOST_ASKED))
+
+
+def question(group: Group) -> bytes:
+    return grammar.compact({"op": "ask", "pg": group})
 
 
 def cut(rng: random.Random, script: fuzz.Script) -> Tuple[fuzz.Script, List[Cut]]:
@@ -144,11 +152,12 @@ def cut(rng: random.Random, script: fuzz.Script) -> Tuple[fuzz.Script, List[Cut]
     at, taken, cuts = places(rng, script), Taken(script.log), []
     made = fuzz.Script([], [], True)
     for number, (line, answer) in enumerate([*zip(script.lines, script.answers), (b"", None)]):
+        groups = some_groups(rng, taken.log) if number in at or number == len(script.lines) else []
         if number in at:
             kept = taken.kept()
             stay = [taken.lines[it] for it in kept], [taken.answers[it] for it in kept]
-            cuts.append(Cut(len(made.lines), rng.random() < 0.7, len(taken.entries), *stay))
-        asked = questions(rng, taken.log) if number in at or number == len(script.lines) else []
+            cuts.append(Cut(len(made.lines), rng.random() < 0.7, len(taken.entries), *stay, [explain.named(it) for it in groups]))
+        asked = [question(it) for it in groups]
         made.lines.extend([*asked, line])
         made.answers.extend([*map(taken.log.answer, asked), answer])
         if answer is not None and is_taken(answer):
@@ -209,6 +218,13 @@ def try_script(words: List[str], script: fuzz.Script, cuts: List[Cut], seconds: 
         sums["runs"] += 1
         expect(fuzz.answered(words, given, seconds, subcommand), what, given, wanted, said)
 
+    def explained(what: str, whole: bytes, less: bytes, *group: str) -> None:
+        """Both scripts have to be explained alike."""
+        sums.update({"runs": 2, "explanations": 1})
+        first, second = (fuzz.answered([*words, "explain", *group], text, seconds, "--json") for text in (whole, less))
+        expect(second, what, less, first.out, second.errors)
+        expect(first, what, whole, first.out, first.errors)
+
     hold("run", "run", script.text(), script.wanted())
     front, begin, before, kept = b"", 0, 0, 0
     for it in cuts:
@@ -218,6 +234,11 @@ def try_script(words: List[str], script: fuzz.Script, cuts: List[Cut], seconds: 
         hold("compact", f"compact {place}", given, front, message(entries, len(it.kept), refused))
         hold("compact", f"compact {place}, once more", front, front, message(len(it.kept), len(it.kept), 0))
         hold("run", f"run {place}", front + text_of(script.lines[it.at :]), wanted_after(script, it))
+        rest = b"\n" + text_of(script.lines[it.at :])
+        is_full = any(answer is not None and answer.code == LOG_FULL for answer in script.answers)
+        for group in [] if is_full else [[], *([name] for name in it.groups[:1])]:
+            for end in (b"", rest):
+                explained(f"{' '.join(['explain', *group])} {place}", text_of(script.lines[: it.at]) + end, front + end, *group)
         begin, before, kept = it.at, it.entries, len(it.kept)
         sums.update({"compactions": 1, "entries": entries, "left out": entries - len(it.kept)})
         sums["answers"] += sum(answer is not None for answer in script.answers[it.at :])
@@ -240,7 +261,7 @@ def script_of(seed: str, number: int, others: List[bytes], kinds: Sequence[str])
     return kind, *cut(rng, MAKERS[kind](rng, others))
 
 
-SUMS = ("runs", "refused", "compactions", "left out", "entries", "scripts", "lines", "answers", "wrong")
+SUMS = ("runs", "refused", "compactions", "left out", "entries", "scripts", "lines", "answers", "explanations", "wrong")
 
 
 class Figures:
@@ -256,7 +277,7 @@ class Figures:
         head = f"Scripts: {kinds}. The program was started {it['runs']} times; {it['refused']} lines were refused."
         cuts = f"{it['compactions']} compactions which left out {it['left out']} of {it['entries']} entries"
         counts = f"{it['scripts']} scripts, {it['lines']} lines, {cuts}, {it['answers']} answers after them"
-        return f"{head}\n{counts}, {it['wrong']} wrong"
+        return f"{head}\n{counts}, {it['explanations']} explanations, {it['wrong']} wrong"
 
 
 def tried(options: argparse.Namespace, is_over: Callable[[Counter[str]], bool], figures: Figures) -> Iterator[str]:

@@ -5,14 +5,13 @@
 
 Which entries of a log have to stay is worked out here once more, by docs/DECISIONS.md ("Compaction"). A generated log is
 compacted at random places. From then on each line goes to both logs, the whole one and the compacted one, and each answer has to
-be the same except for `count`; after each entry the views of the groups that the story is about have to be the same too. A
-compacted log is compacted once more, and has to stay as it is.
+be the same except for `count`; after each entry the views and the explanations of the groups that the story is about have to be
+the same too. A compacted log has to be the whole log compacted, and stays as it is when it is compacted once more.
 
 --wrong leaves out a reason for which an entry stays: then a difference has to be found, or the status is 1.
 """
 
 import argparse
-import bisect
 import collections
 import json
 import random
@@ -23,6 +22,7 @@ from typing import Any, Callable, Counter, Dict, Iterator, List, Optional, Set, 
 import grammar
 import model
 import peering
+import reasons as explanations
 from maps import Group
 
 Line = Dict[str, Any]
@@ -34,24 +34,44 @@ Line = Dict[str, Any]
 REASONS = ("history_les", "counted", "clean", "entries")
 
 
+Span = Tuple[int, int]  # the first and the last epoch of an interval
+
+
+def clean_spans(log: model.Model, group: Group) -> List[Span]:
+    """The intervals of a group in which clean epochs can matter: the current one, and the past ones whose members could serve writes,
+    where no map records that they did or the group isn't known to have begun to serve since."""
+    les, code, begin = log.view(group)["les"], log.maps.code(group[0]), log.maps.made_at[group[0]]
+    *past, now = peering.intervals(code, begin, log.histories[group])
+    able = peering.intervals(code, begin, log.histories[group], [it.first for it in past])
+    wanted = [it for it, at_best in zip(past, able) if at_best.rw and (not it.rw or les <= it.last)]
+    return [(it.first, it.last) for it in [*wanted, now]]
+
+
 class Later:
-    """What comes after an entry, as a walk from the end of a log to its beginning meets it."""
+    """What comes after an entry, as a walk from the end of a log to its beginning meets it, and the last clean epochs by the whole
+    log."""
 
     def __init__(self, log: model.Model):
         self.log = log
         self.stamps: Dict[Any, int] = {}  # the greatest stamp of a later info of a member
         self.starts: Set[Group] = set()  # groups with a later info of their greatest history_les
-        self.cleans: Set[Tuple[Group, int]] = set()  # intervals with a later info that was clean in them
+        self.cleans: Set[Tuple[Group, Span]] = set()  # intervals with a later info of their last clean epoch
         self.numbers: Dict[Any, int] = {}  # the greatest stamp of a later report with a number of a member
-        self.firsts: Dict[Group, List[int]] = {}  # of the intervals of a group, ascending
+        self.spans: Dict[Group, List[Span]] = {}  # of a group, in which clean epochs can matter
 
-    def opening_of(self, group: Group, epoch: int) -> Optional[int]:
-        """The first epoch of the group's interval that holds this epoch, by the log; None before the group was made."""
-        if group not in self.firsts:
-            view = self.log.view(group)
-            self.firsts[group] = [*(it["first"] for it in view["intervals"]), view["first"]]
-        count = bisect.bisect_right(self.firsts[group], epoch)
-        return self.firsts[group][count - 1] if count else None
+    def tells_last_clean(self, group: Group, clean: int) -> bool:
+        """Whether a clean epoch is the last one of an interval of the group in which one can matter, by an info that is met as the
+        first one to say so."""
+        if group not in self.spans:
+            self.spans[group] = clean_spans(self.log, group)
+        span = next((it for it in self.spans[group] if it[0] <= clean <= it[1]), None)
+        if span is None or (group, span) in self.cleans:
+            return False
+        infos = [it for it in self.log.reports[group] if it["op"] == "info"]
+        if clean != max(epoch for epoch in peering.cleans_of(infos) if span[0] <= epoch <= span[1]):
+            return False
+        self.cleans.add((group, span))
+        return True
 
     def reasons(self, report: Line) -> Set[str]:
         """The reasons for which a report stays; it is met then."""
@@ -70,10 +90,8 @@ class Later:
         if self.log.view(group)["les"] == report["history_les"] > 0 and group not in self.starts:
             reasons.add("history_les")
             self.starts.add(group)
-        opening = self.opening_of(group, report.get("last_epoch_clean", 0))
-        if opening is not None and (group, opening) not in self.cleans:
+        if self.tells_last_clean(group, report.get("last_epoch_clean", 0)):
             reasons.add("clean")
-            self.cleans.add((group, opening))
         return reasons
 
 
@@ -101,6 +119,13 @@ def same_but_for_count(answer: bytes, other: bytes) -> bool:
     return bool(a == b)
 
 
+def explanation(log: model.Model, group: Group) -> Dict[str, Any]:
+    """All that `explain` finds out about a group; the smallest sets only where few devices are waited for."""
+    it = explanations.Reckoned(log, group)
+    few = len(it.view["blocked_by"]) <= 6
+    return {**it.shown(), "lacks": it.lacks(), "fallen": it.fallen(), "sets": [it.sets(way) for way in explanations.WAYS if few]}
+
+
 class Pair:
     """A log that grows, and one that is compacted from time to time and gets the same lines."""
 
@@ -110,6 +135,7 @@ class Pair:
         self.story = grammar.Story(rng, self.log, 10**6)
         self.story.most_pools = rng.choice((1, 2))
         self.entries: List[Line] = []  # of the compacted log
+        self.taken: List[Line] = []  # of the whole one
         self.lines: List[Any] = []  # all lines, and None where the log was compacted
 
     def groups(self) -> List[Group]:
@@ -117,7 +143,7 @@ class Pair:
         return [(pool, pg) for pool in made for pg in range(min(made[pool]["pg_num"], 2))]
 
     def compact(self) -> bool:
-        """Compacts the other log; whether that leaves out nothing when done twice."""
+        """Compacts the other log; whether that is the whole log compacted, and leaves out nothing when done twice."""
         before = len(self.entries)
         self.entries = compacted(self.entries, self.left_out)
         self.counted["entries before"] += before
@@ -129,12 +155,13 @@ class Pair:
             answer = self.other.answer(grammar.compact(line))
             if answer is None or answer.code:
                 return False
-        return compacted(self.entries, self.left_out) == self.entries
+        whole = [self.taken[at] for at in places_left(self.log, self.taken, self.left_out)]
+        return compacted(self.entries, self.left_out) == self.entries == whole
 
     def take(self) -> Optional[str]:
         """One line more; what is wrong then."""
         if self.rng.random() < 0.05 and not self.compact():
-            return "it isn't legal, or compacted again it is another"
+            return "it isn't legal, or isn't the whole log compacted, or compacted again it is another"
         line = self.story.line()
         if self.rng.random() < 0.3 and line["op"] in ("info", "entries"):
             line["stamp"] = self.rng.randint(0, self.log.maps.epoch + 1)
@@ -146,10 +173,16 @@ class Pair:
             return f"{answer.text!r} is answered {other.text!r}"
         if line["op"] in ("inc", "info", "entries", "close") and not answer.code:
             self.entries.append(line)
+            self.taken.append(line)
             for group in self.groups():
                 self.counted["views"] += 1
                 if self.log.view(group) != self.other.view(group):
                     return f"group {group}: {self.log.view(group)} is {self.other.view(group)}"
+                told, other = explanation(self.log, group), explanation(self.other, group)
+                self.counted["explanations"] += 1
+                self.counted["blocking intervals that tell of a clean epoch"] += sum(it["clean"] is not None for it in told["blocking"])
+                if told != other:
+                    return f"group {group} is explained by {told} and by {other}"
         return None
 
 

@@ -29,6 +29,12 @@ ENDS = """
 if sys.argv[1] == "run":
     found = [log.answer(line) for log in [model.Model()] for line in text.split(b"\\n")]
     sys.stdout.buffer.write(b"".join(it.text.encode() + b"\\n" for it in found if it is not None))
+elif sys.argv[1] == "explain":
+    log = model.Model()
+    for line in text.split(b"\\n"):
+        log.answer(line)
+    groups = [tuple(int(it, 16) for it in name.split(".")) for name in sys.argv[2:-1]]
+    print([compact.compaction.explanation(log, it) for it in groups or log.reports])
 else:
     out, said = compact.by_model(text)
     sys.stdout.buffer.write(out)
@@ -160,7 +166,7 @@ class Runs(unittest.TestCase):
                 compact.try_script([str(file)], script, cuts, 60, sums)
             except compact.Wrong as why:
                 return str(why)
-        self.assertEqual((sums["runs"], sums["compactions"], sums["entries"], sums["left out"]), (7, 2, 8, 2))
+        self.assertEqual((sums["runs"], sums["compactions"], sums["entries"], sums["left out"]), (23, 2, 8, 2))
         return None
 
     def test_a_sound_program(self):
@@ -177,6 +183,8 @@ class Runs(unittest.TestCase):
                 "run at line 5: line 3 is '{}'",
             "if text.count(b'modify') == 2 and sys.argv[1] == 'compact': text += b'\\n' + text.split(b'\\n')[-2]":
                 "compact at line 9",
+            "if b'nonsense' not in text and sys.argv[1] == 'explain': sys.exit(3)": "explain at line 5 ended with status 3",
+            "if b'nonsense' in text and sys.argv[1] == 'explain': text = text[:-100]": "explain at line 5: line 1 is",
         }.items():
             self.assertIn(wanted, self.complaint(fault + "\n") or "nothing", fault)
 
@@ -191,7 +199,7 @@ class Runs(unittest.TestCase):
                 self.assertEqual(compact.main(), 1)
             said = out.getvalue().splitlines()
             self.assertRegex(said[0], r"^script a/0 \(crowd\): run ended with status 3")
-            self.assertRegex(said[-1], r"^1 scripts, [\d,]+ lines, 0 compactions which left out 0 of 0 entries, 0 answers after them, 1 wrong$")
+            self.assertRegex(said[-1], r"^1 scripts, [\d,]+ lines, 0 compactions which left out 0 of 0 entries, 0 answers after them, 0 explanations, 1 wrong$")
             kept = {it.suffix for it in pathlib.Path(folder).glob("compact-a-0.*")}
             self.assertEqual(kept, {".jsonl", ".given", ".found", ".wanted", ".why"})
 
