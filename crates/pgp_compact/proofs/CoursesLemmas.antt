@@ -1,5 +1,5 @@
 -- What is kept of the groups that have reports, as entries are noted and maps follow.
-use Rattle.pgp_compact.proofs.Common.{AnyCode, AreCourses, AreNumbered, Bool, Bor, Course, Courses, EachIsCourse, Entry, GroupPlace, History, IfNone, IfSome, Incremental, Info, IsCourse, IsCourseIn, IsNext, IsReportOf, IsSameButCourse, IsSilent, IsUnderWay, LiesAt, List, Membership, None, Option, OsdMap, Past, PgId, PrimaryFacts, Report, Some, Span, [], any-same, ap, arith, begun, can_write, cases_Bool, cases_eq, code_of, comes-with_pool, cond, current_first, current_first-continues, current_first-ends, ended, enough_of, epoch, epoch-snoc, eq-is_same, false, filter, fold-append, front-checked, get-last, get-set_other, get-set_same, get_or, get_or_from_slice_get, group_history, has_group, has_group-grows, has_group-same, history-begins-made, history-current, history-grows, history-last, incs, info_of, infos-new, infos-other, infos-same, inl, inr, is_by_place, is_recorded, is_same, is_same-eq, is_same_group, is_some, last-checked, left-unmoved, length, lies-as-before, lies_on, map, map-append, map_fault, map_some, max, may_leave, may_lie_on, may_move, moves_none, nat_le, nat_lt, nat_tests, next_epoch, none-moved, not, numbered, past_intervals, past_intervals-continues, past_intervals-ends, pool, pool_membership, primary_facts, raw_set-stays, refl, report_of, reports-other, reports-same, same-self, same_group, set, slice_get, slice_get_within, span_of, started_by, stepped, subst, suc, sym, temp-same, then_with, true, true≢false, turned-parts, unmade, unmoved-unplaced, wants_clean, ℕ, ◌&&◌, ◌++◌, ◌||◌, ◌∙◌, ◌∷◌, ◌≡◌, ◌≢◌}
+use Rattle.pgp_compact.proofs.Common.{AnyCode, AreCourses, AreNumbered, Bool, Bor, Course, Courses, EachIsCourse, Entry, GroupPlace, History, IfNone, IfSome, Incremental, Info, IsCourse, IsCourseIn, IsNext, IsReportOf, IsSameButCourse, IsSilent, IsUnderWay, LiesAt, List, Membership, None, Option, OsdMap, Past, PgId, PrimaryFacts, Report, Some, Span, [], any-same, ap, arith, begun, can_write, cases_Bool, cases_eq, code_of, comes-with_pool, cond, current_first-continues, current_first-ends, ended, enough_of, epoch, epoch-snoc, eq-is_same, false, filter, fold-append, front-checked, get-last, get-set_other, get-set_same, get_or, get_or_from_slice_get, group_history, has_group, has_group-grows, has_group-same, history-begins-made, history-current, history-grows, history-last, incs, info_of, infos-new, infos-other, infos-same, inl, inr, is_by_place, is_recorded, is_same, is_same-eq, is_same_group, is_some, last-checked, left-unmoved, length, lies-as-before, lies_on, map, map-append, map_fault, map_some, max, may_leave, may_lie_on, may_move, moves_none, nat_le, nat_lt, nat_tests, next_epoch, none-moved, not, numbered, past_intervals, past_intervals-continues, past_intervals-ends, pool, pool_membership, primary_facts, raw_set-stays, refl, report_of, reports-other, reports-same, same-self, same_group, set, slice_get, slice_get_within, span_of, started_by, stepped, subst, suc, sym, temp-same, then_with, true, true≢false, turned-parts, unmade, unmoved-unplaced, wants_clean, ℕ, ◌&&◌, ◌++◌, ◌||◌, ◌∙◌, ◌∷◌, ◌≡◌, ◌≢◌}
 use Rattle.std.specs.HashMap as hash
 use Rattle.pgp_ids.specs.declared.entry.Entry.TheVariants as entry
 use Rattle.pgp_ids.specs.declared.pool.PoolSpec.{PoolSpec}

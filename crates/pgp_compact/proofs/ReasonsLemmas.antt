@@ -1,8 +1,8 @@
 -- What is said of the reasons of a group is the same by a log and by the same log compacted.
-use Rattle.pgp_compact.proofs.Common.{AnyCode, Bool, Contains, Entry, GroupLog, History, Incremental, Info, List, None, Option, Past, PgId, Some, Span, [], ap, are_checked, arith, best, can_write, compacted, ends_at, enough_of, epoch, false, filter, filter-contains, fold, group_history, group_in, group_with, heard, if◌then◌else◌, incs, incs_of, infos, inr, is_by_place, is_clean_from, is_recorded, les, list_any, map, map-agree, map-contains, map_some, max, nat_le, nat_tests, not, option_map_or, past, past_ending, past_ends, prior, refl, reported, same_Some, state_at, subst, sym, true, true≢false, wants_clean, was_clean, ℕ, ◌&&◌, ◌++◌, ◌||◌, ◌∙◌, ◌∷◌, ◌≡◌, ◌≤◌}
+use Rattle.pgp_compact.proofs.Common.{AnyCode, Bool, Contains, Entry, GroupLog, History, Info, List, Past, PgId, Some, Span, [], ap, are_checked, arith, can_write, ends_at, enough_of, epoch, false, filter, filter-contains, fold, group_history, heard, if◌then◌else◌, incs, incs_of, infos, inr, is_by_place, is_clean_from, is_recorded, les, list_any, map, map-agree, map-contains, max, nat_le, nat_tests, not, option_map_or, past, past_ending, past_ends, prior, refl, state_at, subst, sym, true, true≢false, wants_clean, was_clean, ℕ, ◌&&◌, ◌++◌, ◌||◌, ◌∙◌, ◌∷◌, ◌≡◌, ◌≤◌}
 use Rattle.pgp_compact.proofs.GoneOnLemmas.{IsSent, NeverCountsAgain, best-alike, clean-alike, heard-same, incs-alike, les-alike, less, numbers-alike, past-alike, prior-alike, whole}
 use Rattle.pgp_compact.proofs.IntervalLemmas.{span_ending}
-use Rattle.pgp_compact.proofs.PartLemmas.{clean_of, incs-gone_on}
+use Rattle.pgp_compact.proofs.PartLemmas.{clean_of}
 use Rattle.pgp_prior.specs.Blocks.{blocks}
 use Rattle.pgp_prior.specs.Prior.{is_group_down}
 use Rattle.pgp_prior.specs.declared.prior_set.Prior.{Prior}
@@ -13,7 +13,6 @@ use Rattle.pgp_reasons.specs.Reasons.{AreReasons, blocking, gaps, short}
 use Rattle.pgp_reasons.specs.Short.{short_of}
 use Rattle.pgp_reasons.specs.Smallest.{AreSome, smallest}
 use Rattle.pgp_reasons.specs.Ways.{status_after}
-use Rattle.pgp_reasons.specs.declared.blocking.Blocking.{Blocking}
 use Rattle.pgp_reasons.specs.declared.reasons.Reasons.{Reasons}
 use Rattle.pgp_reasons.specs.declared.ways.Way.{Way}
 use Rattle.pgp_reasons.specs.declared.ways.Way.TheVariants.{Start, GiveUp}

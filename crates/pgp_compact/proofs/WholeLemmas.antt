@@ -1,5 +1,5 @@
 -- What the whole log says of a group, and which entries are left of a log that is walked from its end.
-use Rattle.pgp_compact.proofs.Common.{AreLastCleans, Contains, Contains-nil, Course, Entry, GroupLog, GroupPlace, HasReached, HasRead, HasReport, HashMap, Incremental, Info, IsCourse, IsMapOf, IsNext, IsPresent, List, None, Opening, Option, OsdMap, PgId, Report, Says, Some, Standing, Whole, [], ap, arith, checked-more, contains-filter, contains-filter_map, current_first, drop, drop-cons, epoch, faultless-inc, fits-faultless, front-legal, get_or, group_in, group_with, history-last, inc_of, incs-other, incs_of, info_of, infos_of, is_legal, is_same_group, legal-checked, legal-counts, legal-last, length, les, log-in, map, map_fault, opening_in, option_and_then, option_map, past_spans, refl, report_of, reports_of, same-self, same_Some, standing_at, started, started_by, suc, sym, then_with, true, within, ℕ, ◌++◌, ◌+◌, ◌-◌, ◌<◌, ◌∙◌, ◌∷◌, ◌≡◌, ◌≤◌}
+use Rattle.pgp_compact.proofs.Common.{AreLastCleans, Contains, Contains-nil, Course, Entry, GroupLog, GroupPlace, HasReached, HasRead, HasReport, HashMap, Incremental, Info, IsCourse, IsMapOf, IsNext, IsPresent, List, None, Opening, Option, OsdMap, PgId, Report, Says, Some, Standing, Whole, [], ap, arith, checked-more, contains-filter, contains-filter_map, current_first, drop, drop-cons, epoch, faultless-inc, fits-faultless, front-legal, get_or, group_in, group_with, history-last, inc_of, incs-other, incs_of, info_of, infos_of, is_legal, is_same_group, legal-checked, legal-counts, legal-last, length, les, log-in, map, map_fault, opening_in, option_and_then, option_map, past_spans, refl, report_of, reports_of, same-self, same_Some, standing_at, started, started_by, suc, then_with, true, within, ℕ, ◌++◌, ◌+◌, ◌-◌, ◌<◌, ◌∙◌, ◌∷◌, ◌≡◌, ◌≤◌}
 use Rattle.pgp_compact.proofs.LegalLemmas.{legal-sent}
 use Rattle.pgp_ids.specs.declared.entry.Entry.TheVariants as entry
 

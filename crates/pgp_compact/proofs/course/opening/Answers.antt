@@ -1,4 +1,4 @@
-use Rattle.pgp_compact.proofs.Common.{IsNonDecreasingBy, IsPartitionPoint, IsPartitionPoint-from_clause, IsPartitionedBy-leb, List, Some, Span, arith, false, get_or_from_slice_get, length, nat_le, nat_tests, refl, rules, slice_get, slice_get_read, slice_get_within, suc, sym, true, ℕ, ◌-◌, ◌<◌, ◌≡◌, ◌≤◌}
+use Rattle.pgp_compact.proofs.Common.{IsPartitionPoint, IsPartitionPoint-from_clause, IsPartitionedBy-leb, List, Some, Span, arith, false, get_or_from_slice_get, length, nat_le, nat_tests, refl, rules, slice_get, slice_get_read, slice_get_within, suc, true, ℕ, ◌-◌, ◌<◌, ◌≡◌, ◌≤◌}
 use Rattle.pgp_compact.proofs.SpanLemmas.{apart-rise, held-at, held-by-none}
 use Rattle.pgp_compact.proofs.course.opening.Goals as goal
 

@@ -1,4 +1,4 @@
-use Rattle.pgp_compact.proofs.Common.{arith, compacted, incs_of, ◌++◌, ◌∙◌}
+use Rattle.pgp_compact.proofs.Common.{arith, compacted, ◌++◌, ◌∙◌}
 use Rattle.pgp_compact.proofs.LegalLemmas.{fault-same, fits-less, fits-short, gone_on-legal, gone_on-shorter}
 use Rattle.pgp_compact.proofs.PartLemmas.{incs-gone_on}
 use Rattle.pgp_compact.proofs.laws.what_follows_is_taken_alike.Goals as goal

@@ -1,4 +1,4 @@
-use Rattle.pgp_compact.proofs.Common.{arith, infos_of, les, map, nat_le, nat_lt, nat_tests, refl, started, true, ◌∙◌, ◌≡◌}
+use Rattle.pgp_compact.proofs.Common.{arith, infos_of, les, map, nat_le, nat_lt, nat_tests, refl, started, true, ◌≡◌}
 use Rattle.pgp_compact.proofs.LaterLemmas.{starts-are}
 use Rattle.pgp_compact.proofs.later.Later.tells_last_start.Goals as goal
 
