@@ -18,7 +18,7 @@ import sys
 import threading
 import time
 from collections import Counter
-from typing import Callable, List
+from typing import List
 
 HERE = pathlib.Path(__file__).resolve().parent
 sys.path.insert(0, str(HERE))
@@ -110,34 +110,42 @@ def settled(made: cluster.Cluster, load: Load) -> List[truth.Answer]:
     return outages.asked_alike(made, load)
 
 
-def main() -> int:
+def options() -> argparse.Namespace:
     parser = argparse.ArgumentParser(description=__doc__, formatter_class=argparse.RawDescriptionHelpFormatter)
     parser.add_argument("--program", default=os.environ.get("PGPEER", str(cluster.PROGRAM)), metavar="PATH")
     parser.add_argument("--minutes", type=float, default=60.0, metavar="T")
     parser.add_argument("--pause", type=float, default=0.05, metavar="S", help="seconds, of each client after a line")
     parser.add_argument("--every", type=int, default=2000, metavar="N", help="places between two marks")
     parser.add_argument("--seed", default="1", metavar="S")
-    options = parser.parse_args()
-    rng = random.Random(options.seed)
-    say: Callable[[str], None] = lambda text: print(text, flush=True)
-    with cluster.Cluster(program=options.program, words=["--snapshot-every", str(options.every), "--wait", "6"]) as made:
+    return parser.parse_args()
+
+
+def say(text: str) -> None:
+    print(text, flush=True)
+
+
+def main() -> int:
+    told = options()
+    rng = random.Random(told.seed)
+    with cluster.Cluster(program=told.program, words=["--snapshot-every", str(told.every), "--wait", "6"]) as made:
         recorder = truth.Recorder(made)
-        load = Load(made.ports, rng, 10**9, client_seconds=4.0, pause=options.pause)
-        nuisance = Nuisance(made, random.Random(f"{options.seed}/nuisance"))
-        threads = [threading.Thread(target=nuisance.run), threading.Thread(target=load.run, args=(4, 60 * options.minutes))]
+        load = Load(made.ports, rng, 10**9, client_seconds=4.0, pause=told.pause)
+        nuisance = Nuisance(made, random.Random(f"{told.seed}/nuisance"))
+        threads = [threading.Thread(target=nuisance.run), threading.Thread(target=load.run, args=(4, 60 * told.minutes))]
         begun = time.monotonic()
         for it in threads:
             it.start()
-        while threads[1].is_alive() and time.monotonic() - begun < 60 * options.minutes + 120:
+        while threads[1].is_alive() and time.monotonic() - begun < 60 * told.minutes + 120:
             threads[1].join(60)
-            say(f"{time.monotonic() - begun:.0f} s: {len(load.told):,} lines, {len(recorder.entries):,} places, {sum(nuisance.done.values())} hits, {load.wrong[:3]}")
+            hits = sum(nuisance.done.values())
+            say(f"{time.monotonic() - begun:.0f} s: {len(load.told):,} lines, {hits} hits, {load.wrong[:3]}")
         took = time.monotonic() - begun
         nuisance.stopping.set()
         threads[0].join()
         load.answers += settled(made, load)
         log = recorder.finish()
         starts_over = sum(it.read_text().count("goes on from the snapshot") for it in made.folder.glob("f*.log"))
-        wrong = load.wrong + truth.misplaced(log, load.told, load.unsure) + truth.faults_of(options.program, log, load.answers)
+        wrong = load.wrong + truth.misplaced(log, load.told, load.unsure) + truth.faults_of(told.program, log, load.answers)
     rows = [
         f"| minutes | {took / 60:.0f} |",
         f"| places of the log | {len(log):,} |",

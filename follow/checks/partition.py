@@ -129,11 +129,10 @@ def cut(hosts: Hosts, at: int, what: str) -> Found:
         with cluster.Client(hosts.sockets[at]) as minority, cluster.Client(hosts.sockets[others[0]], 60) as majority:
             known = minority.tell({"op": "health"})["at"]
             time.sleep(6)
-            reply = majority.tell({**INFO, "token": f"majority-{at}"})
-            for _ in range(5):
+            for _ in range(6):
+                reply = majority.tell({**INFO, "token": f"majority-{at}"})
                 if "ok" in reply:
                     break
-                reply = majority.tell({**INFO, "token": f"majority-{at}"})
             check("ok" in reply, f"the majority takes an entry: {reply}")
             place = reply["at"]
             reply = minority.tell({**ask, "after": known})
@@ -148,13 +147,18 @@ def cut(hosts: Hosts, at: int, what: str) -> Found:
             check(minority.tell({"op": "health"})["state"] == "Unavailable", "its health says so")
     finally:
         hosts.link(at, "up")
+    return found + back(hosts, at, others[1], place, what)
+
+
+def back(hosts: Hosts, at: int, other: int, place: int, what: str) -> Found:
+    """What a follower answers once its host is joined again."""
     cluster.wait_for(hosts.sockets[at], hosts.folder, 60)
-    with cluster.Client(hosts.sockets[at]) as back, cluster.Client(hosts.sockets[others[1]]) as other:
-        reply = back.tell({**ask, "after": place})
-        check(reply["at"] >= place and "age" not in reply, f"it has caught up: {reply}")
-        reply = back.tell({**INFO, "token": f"minority-{at}"})
-        again = other.tell({**INFO, "token": f"minority-{at}"})
-        check("ok" in reply and reply == again, f"the refused line stands once: {reply}, {again}")
+    with cluster.Client(hosts.sockets[at]) as client, cluster.Client(hosts.sockets[other]) as another:
+        reply = client.tell({"op": "ask", "pg": [1, 0], "after": place})
+        found = [(reply["at"] >= place and "age" not in reply, f"{what}: it has caught up: {reply}")]
+        reply = client.tell({**INFO, "token": f"minority-{at}"})
+        again = another.tell({**INFO, "token": f"minority-{at}"})
+        found.append(("ok" in reply and reply == again, f"{what}: the refused line stands once: {reply}, {again}"))
     return found
 
 

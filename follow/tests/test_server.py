@@ -24,7 +24,6 @@ from pgpeer_follow.faults import Fault, TwoLogs, Unavailable, WrongCluster
 from pgpeer_follow.follower import Follower, Settings
 from pgpeer_follow.gateway import Access
 from pgpeer_follow.keys import LONGEST_LINE, Keys
-from pgpeer_follow.log import Log
 from pgpeer_follow.metrics import Counts, Pages
 from pgpeer_follow.reader import Reader
 from pgpeer_follow.server import Lines, Server
