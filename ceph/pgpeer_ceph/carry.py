@@ -39,7 +39,7 @@ def finish(options: argparse.Namespace, make: Callable[[argparse.Namespace, Note
         raise Unusable("the map can't be carried over whole, and --strict was given")
     text = "".join(f"{compact(line)}\n" for line in made.lines)
     if options.output and made.epochs is not None:
-        write(side_text(made.epochs), side_path(options.output))
+        write(side_text(made.epochs, made.numbers), side_path(options.output))
     elif made.epochs is not None and made.epochs.offset:
         tell(f"epochs: Ceph's are those of the script and {made.epochs.offset} more; --output SCRIPT keeps that beside the script")
     write(text, options.output)

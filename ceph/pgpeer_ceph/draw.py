@@ -4,7 +4,8 @@ import argparse
 import sys
 from typing import Any, Optional
 
-from .epochs import Epochs, epochs_of
+from .epochs import Epochs, epochs_of, numbers_beside
+from .maps import group_text, named_group
 from .nodes import Unusable
 from .output import tell, write
 from .picture import Picture
@@ -32,14 +33,12 @@ def script_epoch(epochs: Epochs, epoch: Optional[int], otherwise: int) -> int:
 
 
 def drawn(options: argparse.Namespace) -> str:
-    epochs = epochs_of(options.script, options.epochs)
+    epochs, numbers = epochs_of(options.script, options.epochs), numbers_beside(options.script, options.epochs)
     since, until = script_epoch(epochs, options.since, 0), script_epoch(epochs, options.until, MOST_EPOCH)
-    group, refused = followed(options.program, options.script, *group_of(options.group), since, until, epochs.offset)
-    if epochs.offset < 0:
-        refused.append("the epochs in the sentences are the script's")
+    group, refused = followed(options.program, options.script, *group_of(options.group, numbers), since, until, epochs)
     for told in refused:
         tell(told)
-    return Picture(group, epochs).svg()
+    return Picture(group._replace(name=group_text(named_group(options.group))), epochs).svg()
 
 
 def run(options: argparse.Namespace) -> int:

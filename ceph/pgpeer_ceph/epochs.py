@@ -11,6 +11,7 @@ import os
 from typing import Iterable, NamedTuple, Optional, Tuple
 
 from .nodes import Unusable, load
+from .numbers import CarriedPool, Numbers
 
 
 class Epochs(NamedTuple):
@@ -49,8 +50,20 @@ def side_path(script: str) -> str:
     return (script[: -len(".jsonl")] if script.endswith(".jsonl") else script) + ".epochs.json"
 
 
-def side_text(epochs: Epochs) -> str:
-    return json.dumps({"offset": epochs.offset, "first": epochs.first, "older": list(epochs.older)}) + "\n"
+def side_text(epochs: Epochs, numbers: Numbers = Numbers()) -> str:
+    pools = [{"id": it.id, "pool": it.ceph, "groups": list(it.seeds)} for it in numbers.pools]
+    told = {"offset": epochs.offset, "first": epochs.first, "older": list(epochs.older)}
+    return json.dumps({**told, **({"pools": pools} if pools else {})}) + "\n"
+
+
+def numbers_beside(script: str, side: Optional[str] = None) -> Numbers:
+    """What the file beside a script says of its groups; the script's own numbers where it says nothing."""
+    path = side or side_path(script)
+    if side is None and (script == "-" or not os.path.exists(path)):
+        return Numbers()
+    pools = (it for it in load(path).items_of("pools"))
+    return Numbers(CarriedPool(it.key("id").count(), it.key("pool").count(), tuple(seed.count() for seed in it.items_of("groups")))
+                   for it in pools)
 
 
 def epochs_of(script: str, side: Optional[str] = None) -> Epochs:

@@ -4,7 +4,8 @@ import argparse
 import json
 from typing import Any, Dict, Iterator, List, NamedTuple, Optional, Set, Tuple
 
-from .epochs import Epochs, epochs_of
+from .epochs import Epochs, epochs_of, numbers_beside
+from .maps import group_text
 from .output import tell, write
 from .program import option_of_program
 from .steps import Entry, History, Member, Pool, View, answers, group_of, missing_group, read_script
@@ -110,16 +111,17 @@ def told_of(program: str, entries: List[Entry], groups: List[Tuple[int, int]]) -
 
 def groups_text(options: argparse.Namespace) -> str:
     entries, epochs = read_script(options.script), epochs_of(options.script, options.epochs)
+    numbers = numbers_beside(options.script, options.epochs)
     pools = pools_of(entries)
     every = [(pool, pg) for pool, it in sorted(pools.items()) for pg in range(min(max(it["pg_num"], 0), 1024))]
-    wanted = [group_of(words) for words in options.groups]
+    wanted = [group_of(words, numbers) for words in options.groups]
     told = told_of(options.program, entries, wanted or every)
     for words, group in zip(options.groups, wanted):
         if group not in told.views:
             raise missing_group(options.script, words, {pool: it["pg_num"] for pool, it in pools.items()})
     lines = []
     for group, view in told.views.items():
-        lines.append(head(view, f"{group[0]}.{group[1]:x}", epochs))
+        lines.append(head(view, group_text(numbers.in_ceph(group)), epochs))
         if wanted:
             lines += details(view, told.history(group), epochs)
     return "".join(f"{line}\n" for line in lines)

@@ -8,6 +8,7 @@ from .folder import Dumps
 from .maps import IN, Group, Places, Pool, Temp, group_text
 from .nodes import compact, ranges
 from .notes import Notes
+from .numbers import Numbers
 from .reports import Info, entries_lines, info_line
 from .sets import carried, up_alone
 from .story import Selection, Story
@@ -19,6 +20,7 @@ LONGEST_LINE = 1048576  # bytes, without the line feed
 class Script(NamedTuple):
     lines: List[Line]
     epochs: Optional[Epochs]  # None where they are the script's own
+    numbers: Numbers = Numbers()
 
 
 def bucket_object(bucket: Bucket) -> Line:

@@ -1,13 +1,16 @@
 """What `pgpeer explain` says of a group at the end of a script: why it doesn't serve, and what brings it back."""
 
 import json
+import re
 import subprocess
 from typing import Any, Dict, Iterable, List, NamedTuple
 
+from .epochs import Epochs
 from .nodes import Unusable
 
 Set = List[int]  # devices that are enough together
 MOST_SPANS = 5  # runs of epochs that are named
+NAMED = re.compile(r"(?<=\bepoch )\d+|(?<=\bepochs )\d+(?:(?:, and | and |, | to )\d+)*")  # epochs in a sentence
 KEYS = ("says", "verdict", "blocking", "starts", "losses", "unheard")
 
 
@@ -20,6 +23,7 @@ class Reasons(NamedTuple):
     starts: Dict[str, Any]
     losses: Dict[str, Any]
     unheard: List[List[int]]
+    epochs: Epochs = Epochs()  # how those of the script, in all keys except `says`, go together with Ceph's
 
     def waits(self) -> Dict[int, str]:
         """For which devices the group waits, and how."""
@@ -34,7 +38,7 @@ class Reasons(NamedTuple):
         if self.starts["sets"]:
             ways.append(f"start {sets_text(self.starts)}")
         if self.losses["sets"]:
-            ways.append(f"giving up what was written in {epochs_text(self.blocking)}, declare lost {sets_text(self.losses)}")
+            ways.append(f"giving up what was written in {epochs_text(self.blocking, self.epochs)}, declare lost {sets_text(self.losses)}")
         return f"{head}: {'; or, '.join(ways)}." if ways else ""
 
 
@@ -50,7 +54,7 @@ def sets_text(ways: Dict[str, Any]) -> str:
     return found + (" (there may be others)" if ways["more"] else "")
 
 
-def epochs_text(blocking: List[Dict[str, Any]]) -> str:
+def epochs_text(blocking: List[Dict[str, Any]], epochs: Epochs = Epochs()) -> str:
     """The epochs of intervals, as `epoch 3` or `epochs 3 to 4 and 7`; those that follow on each other are told as one."""
     runs: List[List[int]] = []
     for it in blocking:
@@ -58,14 +62,20 @@ def epochs_text(blocking: List[Dict[str, Any]]) -> str:
             runs[-1][1] = it["last"]
         else:
             runs.append([it["first"], it["last"]])
-    spans = [str(first) if first == last else f"{first} to {last}" for first, last in runs]
+    texts = ((epochs.text(first), epochs.text(last)) for first, last in runs)
+    spans = [first if first == last else f"{first} to {last}" for first, last in texts]
     named = together(spans) if len(spans) <= MOST_SPANS else ", ".join([*spans[:MOST_SPANS], "and later ones"])
     return f"epoch{'' if len(spans) == 1 and ' ' not in spans[0] else 's'} {named}"
 
 
-def explained(program: str, lines: Iterable[str], group: str, offset: int = 0) -> Reasons:
-    """What the program says of a group that the lines make, with its epochs so much later."""
-    words = [program, "explain", group, "--json", *(["--epoch-offset", str(offset)] if offset > 0 else [])]
+def in_ceph(sentence: str, epochs: Epochs) -> str:
+    """A sentence of the program's with the epochs of Ceph."""
+    return NAMED.sub(lambda named: re.sub(r"\d+", lambda epoch: epochs.text(int(epoch[0])), named[0]), sentence)
+
+
+def explained(program: str, lines: Iterable[str], group: str, epochs: Epochs = Epochs()) -> Reasons:
+    """What the program says of a group that the lines make, with the epochs of Ceph."""
+    words = [program, "explain", group, "--json"]
     script = "".join(f"{line}\n" for line in lines)
     try:
         run = subprocess.run(words, input=script.encode(), capture_output=True)
@@ -76,6 +86,7 @@ def explained(program: str, lines: Iterable[str], group: str, offset: int = 0) -
         raise Unusable(f"{program} explain ended with status {run.returncode}: {''.join(told)}")
     try:
         found = json.loads(run.stdout)
-        return Reasons(*(found[key] for key in KEYS))
+        reasons = Reasons(*(found[key] for key in KEYS), epochs)
+        return reasons._replace(says=in_ceph(reasons.says, epochs))
     except (ValueError, RecursionError, KeyError, TypeError) as fault:
         raise Unusable(f"{program} explain gave no explanation") from fault

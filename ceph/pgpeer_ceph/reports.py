@@ -5,7 +5,7 @@
 
 import re
 import urllib.parse
-from typing import Any, Dict, Iterator, List, NamedTuple, Optional, Tuple
+from typing import Any, Container, Dict, Iterator, List, NamedTuple, Optional, Tuple
 
 from .epochs import Epochs
 from .maps import NONE, Group, Places, Pool, group_text, places_of, read_group
@@ -205,7 +205,7 @@ def latest_of(info: Info) -> int:
     return max(info.les, info.history_les, info.last_epoch_clean, info.last_update[0])
 
 
-def tell_faults(info: Info, pools: Dict[int, Pool], devices: List[int], last: int, notes: Notes) -> bool:
+def tell_faults(info: Info, pools: Dict[int, Pool], devices: Container[int], last: int, notes: Notes) -> bool:
     """Tells why the program would refuse the info, if it would; answers whether it can be carried."""
     pool, text = pools.get(info.group[0]), f"{group_text(info.group)} of osd.{info.member[0]}"
     if pool is None or info.group[1] >= pool.pg_num:

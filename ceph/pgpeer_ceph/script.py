@@ -6,8 +6,10 @@ from typing import Any
 from .carry import PLACING, finish, is_misplaced, options_of_scripts
 from .folder import read_folder
 from .history import Script, history
+from .maps import named_group
 from .nodes import MOST, Unusable
 from .notes import Notes
+from .numbers import Numbers, do_fit, numbers_of, renumbered
 from .story import Selection
 
 ABOUT = """\
@@ -32,17 +34,21 @@ def whole_history(options: argparse.Namespace, notes: Notes) -> Script:
     for pool in options.pool:
         if not any(node.key("pool").whole() == pool for it in dumps.maps.values() for node in it.key("pools").items()):
             raise Unusable(f"the maps have no pool {pool}")
+    numbers, has_sets = Numbers(), bool(dumps.sets or dumps.stats or dumps.queries)
+    if has_sets and not do_fit(dumps):
+        numbers = numbers_of(dumps, options.pool, {named_group(words) for words in options.pg}, notes)
+        dumps, wanted = renumbered(dumps, numbers), wanted._replace(own_sets=True, pools=[])
     first = Notes()
     found = history(dumps, wanted, first)
-    if not wanted.own_sets and (dumps.sets or dumps.stats or dumps.queries) and is_misplaced(first):
+    if not wanted.own_sets and has_sets and is_misplaced(first):
         first = Notes()
         wanted = wanted._replace(own_sets=True)
         found = history(dumps, wanted, first)
     for cause, things in first.things.items():
         for thing in things:
             if not (wanted.own_sets and cause.startswith(PLACING)):
-                notes.tell(cause, thing)
-    return found
+                notes.tell(cause, numbers.named(thing))
+    return found._replace(numbers=numbers)
 
 
 def add_to(verbs: Any) -> None:
@@ -50,6 +56,7 @@ def add_to(verbs: Any) -> None:
                               formatter_class=argparse.RawDescriptionHelpFormatter)
     options_of_scripts(parser)
     parser.add_argument("files", metavar="FILE|FOLDER", nargs="+", help="dumps, and folders of them")
+    parser.add_argument("--pg", action="append", default=[], metavar="PG", help="carry this group, also where there are more than fit")
     parser.add_argument("--groups", action="append", default=[], metavar="FILE", help=(
         "where groups lie, as `osdmaptool MAP --test-map-pgs-dump-all` or `ceph pg dump --format json` prints it; "
         "acting sets are then Ceph's"))

@@ -6,8 +6,10 @@ import subprocess
 import tempfile
 from typing import Any, Dict, FrozenSet, Generator, Iterable, Iterator, List, NamedTuple, Optional, Set, Tuple, cast
 
+from .epochs import Epochs
 from .maps import named_group
 from .nodes import Unusable, ranges, text_of
+from .numbers import Numbers
 from .reasons import Reasons, explained
 
 ENTRIES = ("inc", "info", "entries", "close")
@@ -300,9 +302,9 @@ def may_touch(entry: Dict[str, Any], group: List[int], devices: Set[int]) -> boo
 
 
 def followed(program: str, path: str, pool: int, pg: int, since: int = 0, until: int = MOST_EPOCH,
-             offset: int = 0) -> Tuple[Group, List[str]]:
+             epochs: Epochs = Epochs()) -> Tuple[Group, List[str]]:
     """The group after each entry from the epoch `since` on, up to the epoch `until`; and what was refused. Why it doesn't
-    serve is said in epochs that are `offset` later."""
+    serve is said in the epochs of Ceph."""
     entries, group = up_to(read_script(path), until), [pool, pg]
     lines = [line for _, line, _ in entries]
     question = json.dumps({"op": "ask", "pg": group})
@@ -312,7 +314,7 @@ def followed(program: str, path: str, pool: int, pg: int, since: int = 0, until:
     devices = devices_of(last, entries, group)
     asked = AskedScript(entries, [may_touch(entry, group, devices) for _, _, entry in entries])
     found, refused = steps_of(program, path, asked, group, since, last)
-    return found._replace(why=explained(program, lines, found.name, offset)), refused
+    return found._replace(why=explained(program, lines, found.name, epochs)), refused
 
 
 def lines_of(asked: AskedScript, question: str) -> Iterator[str]:
@@ -355,9 +357,9 @@ def steps_of(program: str, path: str, asked: AskedScript, group: List[int], sinc
 # Groups
 
 
-def group_of(words: str) -> Tuple[int, int]:
-    """A pool and a group's number from POOL.PG."""
-    pool, pg = named_group(words)
+def group_of(words: str, numbers: Numbers = Numbers()) -> Tuple[int, int]:
+    """The script's pool and number of a group that a command line names as Ceph does."""
+    pool, pg = numbers.in_script(named_group(words))
     if not (1 <= pool <= 255 and pg <= 1023):
         raise Unusable(f"there can be no group '{words}'")
     return pool, pg

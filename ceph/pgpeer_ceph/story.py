@@ -107,8 +107,8 @@ class Story:
                     self.notes.tell(STATS, group_text(info.group))
                     found.setdefault((late.group, late.member, late.stamp), late)
         found = {key: self.without_log(info) for key, info in found.items()}
-        last = self.snapshots[-1]
-        kept = (info for info in found.values() if tell_faults(info, last.pools, list(self.devices()), last.epoch, self.notes))
+        last, devices = self.snapshots[-1], self.devices()
+        kept = (info for info in found.values() if tell_faults(info, last.pools, devices, last.epoch, self.notes))
         return sorted((info for info in kept if info.stamp >= self.first), key=lambda info: (info.stamp, info.group, info.member))
 
     def without_log(self, info: Info) -> Info:

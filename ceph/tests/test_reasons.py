@@ -140,8 +140,15 @@ class Program(unittest.TestCase):
     def test_how_it_is_asked(self):
         stub = self.stub("print(json.dumps(told))")
         self.assertEqual(group_reasons.explained(stub, ["a", "b"], "1.a").says, "explain 1.a --json: a\nb\n")
-        self.assertEqual(group_reasons.explained(stub, [], "1.a", 15).says, "explain 1.a --json --epoch-offset 15: ")
-        self.assertEqual(group_reasons.explained(stub, [], "1.a", -2).says, "explain 1.a --json: ")
+        self.assertEqual(group_reasons.explained(stub, [], "1.a").says, "explain 1.a --json: ")
+
+    def test_epochs_in_sentences_are_ceph_s_where_they_do_not_follow_each_other(self):
+        epochs = Epochs(44, 50, (45, 47))
+        for said, wanted in (("in epochs 1 to 2, and too few of 3", "in epochs 45 to 47, and too few of 3"), ("since epoch 6, with 2", "since epoch 50, with 2"),
+                             ("epochs 1, 2 and 7 to 8", "epochs 45, 47 and 51 to 52"), ("in epoch 3", "in epoch before 50"), ("no epoch", "no epoch")):
+            self.assertEqual(group_reasons.in_ceph(said, epochs), wanted)
+        blocking = [{"first": 1, "last": 2}, {"first": 7, "last": 7}]
+        self.assertEqual(group_reasons.epochs_text(blocking, epochs), "epochs 45 to 47 and 51")
 
     def test_what_is_no_explanation(self):
         for then, told in (
@@ -167,8 +174,8 @@ class Examples(unittest.TestCase):
 
     def test_epochs_are_those_of_the_cluster(self):
         script = str(ROOT / "examples/ceph_outage.jsonl")
-        group, _ = followed(PROGRAM, script, 1, 0, offset=15)
-        self.assertEqual([(it["first"], it["last"]) for it in group.why.blocking], [(20, 21)])
+        group, _ = followed(PROGRAM, script, 1, 0, epochs=Epochs(15))
+        self.assertEqual(group_reasons.epochs_text(group.why.blocking, group.why.epochs), "epochs 20 to 21")
         status, out, _ = written(["--program", PROGRAM, script, "1.0"])
         self.assertIn("in epochs 20 to 21", " ".join(words_of(xml.fromstring(out))))
 

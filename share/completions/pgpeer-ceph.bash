@@ -11,7 +11,7 @@ _pgpeer_ceph() {
     fi
     case ${COMP_WORDS[1]} in
         fetch) choices="--ceph --pg --pool --jobs --seconds --from --to --no-groups --help" ;;
-        script) choices="--pool --ask --strict --output --groups --from --to --help" ;;
+        script) choices="--pool --ask --strict --output --pg --groups --from --to --help" ;;
         explain) choices="--epochs --program --help" ;;
         draw) choices="--epochs --program --from --to --output --help" ;;
         map) choices="--pool --ask --strict --output --alone --help" ;;

@@ -7,7 +7,7 @@ complete -c pgpeer-ceph -n __fish_use_subcommand -f -a map -d 'the script of one
 complete -c pgpeer-ceph -n __fish_use_subcommand -s V -l version -d 'print the version'
 complete -c pgpeer-ceph -s h -l help -d 'print help'
 complete -c pgpeer-ceph -n '__fish_seen_subcommand_from fetch' -x -l ceph -d 'how ceph is called'
-complete -c pgpeer-ceph -n '__fish_seen_subcommand_from fetch' -x -l pg -d 'query this group'
+complete -c pgpeer-ceph -n '__fish_seen_subcommand_from fetch script' -x -l pg -d 'this group'
 complete -c pgpeer-ceph -n '__fish_seen_subcommand_from fetch' -x -l jobs -d 'how many commands run side by side'
 complete -c pgpeer-ceph -n '__fish_seen_subcommand_from fetch' -x -l seconds -d 'begin no query after so many seconds'
 complete -c pgpeer-ceph -n '__fish_seen_subcommand_from fetch' -l no-groups -d 'do not keep where groups lie'
