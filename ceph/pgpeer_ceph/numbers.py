@@ -94,8 +94,17 @@ def numbers_of(dumps: Dumps, pools: List[int], named: Set[Group], notes: Notes) 
     for pool, count in counts.items():
         if len(by_pool.get(pool, [])) < count:
             notes.tell(LEFT_OUT, f"pool {pool}, of which {len(by_pool.get(pool, [])):,} of {count:,} are carried")
+    tell_merges(dumps, counts, notes)
     chunks = [(pool, tuple(own[at : at + MOST_GROUPS])) for pool, own in sorted(by_pool.items()) for at in range(0, len(own), MOST_GROUPS)]
     return Numbers(CarriedPool(at, pool, seeds) for at, (pool, seeds) in enumerate(chunks[:MOST_POOLS], 1))
+
+
+def tell_merges(dumps: Dumps, counts: Dict[int, int], notes: Notes) -> None:
+    """Tells of groups that earlier maps have and the last one hasn't."""
+    for epoch, osdmap in sorted(dumps.maps.items()):
+        for pool, count in pools_of(osdmap).items():
+            if count > counts.get(pool, count):
+                notes.tell("groups that were merged into others, whose past is left out", f"pool {pool} had {count} in epoch {epoch}")
 
 
 def states_of(dumps: Dumps) -> Dict[Group, str]:

@@ -104,6 +104,12 @@ class Renumbered(Room):
             status, out, _ = written("draw", "--program", PROGRAM, self.script, "7.3")
             self.assertEqual((status, "7.3" in out), (0, True))
 
+    def test_merged_groups_are_told(self):
+        self.stats = [self.stat("7.0"), self.stat("7.1")]
+        self.put(7, 4, 63)
+        self.put(7, 2, 64)
+        self.assertIn("merged into others, whose past is left out: pool 7 had 4 in epoch 63\n", self.made()[1])
+
     def test_broken_dumps_end_with_one_line(self):
         rng = random.Random(3)
         self.stats = [self.stat(f"300.{pg:x}") for pg in range(1030)]
