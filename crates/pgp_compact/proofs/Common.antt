@@ -74,7 +74,7 @@ pub use Rattle.pgp_log.proofs.TakeLemmas.{epoch-inc, epoch-other, faultless-inc,
 pub use Rattle.pgp_log.proofs.TouchLemmas.{none-moved, turned-parts}
 pub use Rattle.pgp_log.specs.Fits.{entry_fault, fits, is_close, is_closed}
 pub use Rattle.pgp_log.specs.Log.{is_legal}
-pub use Rattle.pgp_log.specs.MapBefore.{IsMapBefore}
+pub use Rattle.pgp_log.specs.kept.MapBefore.{IsMapBefore}
 pub use Rattle.pgp_log.specs.RawSets.{IsRawSet}
 pub use Rattle.pgp_log.specs.ReportFault.{report_fault}
 pub use Rattle.pgp_log.specs.Touch.{moves_none}

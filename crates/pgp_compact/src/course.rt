@@ -14,7 +14,7 @@ ghost use Rattle.pgp_group.specs.GroupLog.{GroupLog, group_in};
 ghost use Rattle.pgp_group.specs.Heard.{les};
 ghost use Rattle.pgp_log.specs.Locate.{IsCheckedMap};
 ghost use Rattle.pgp_log.specs.Log.{is_legal};
-ghost use Rattle.pgp_log.specs.MapBefore.{IsMapBefore};
+ghost use Rattle.pgp_log.specs.kept.MapBefore.{IsMapBefore};
 ghost use Rattle.pgp_compact.specs.Compacted.{is_within, past_spans, wants_clean};
 ghost use Rattle.pgp_compact.specs.Course.{IsCourse, IsNext, IsUnderWay, CanGoOn, LiesAt, ended};
 ghost use Rattle.pgp_compact.specs.Courses.{started_by};
