@@ -1,0 +1,19 @@
+use Rattle.std.proofs.Common.{◌≡◌, ◌≢◌, ◌⊎◌, Err, inl, inr, refl, ap, ◌∙◌}
+use Rattle.pgp_compact_script.specs.declared.fault.CompactFault.{CompactFault}
+use Rattle.pgp_compact_script.specs.declared.fault.CompactFault.TheVariants.{Script, Write}
+use Rattle.pgp_cli.proofs.status.compact.Goals as goal
+
+-- a fault is a failed write, or another one
+write_or_other : (fault : CompactFault) → (fault ≡ Write) ⊎ (fault ≢ Write)
+write_or_other (Script why) = inr (λ is. cc)
+write_or_other Write = inl refl
+
+pub returns-in-Err : goal.returns-in-Err
+returns-in-Err g c =
+    rw c.report_fault.ensures
+    (elim (write_or_other c.in-Err.why) [
+      | inl write ↦
+          let cut = c.compact_script.ensures.write (c.in-Err.is ∙ ap Err write) in
+          inr (inr (record { part = inr (inl cut); failed = cut.failed }))
+      | inr other ↦ inr (inl (ap g.W.Sink.contents (c.in-Err.ensures.quiet (λ same. let write : c.in-Err.why ≡ Write = cc in other write))))
+    ])
