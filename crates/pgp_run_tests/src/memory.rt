@@ -42,7 +42,7 @@ fn with_memory(alloc: Global, answers: &[u8]) -> Result<Option<AnsweredLines>, A
         };
         let answer = &rest[..end];
         if answer == LINE_WITHOUT || answer == ENTRY_WITHOUT {
-            kept.without += 1;
+            kept.without = kept.without.saturating_add(1);
         } else {
             kept.script.extend_from_slice(line.as_bytes())?;
             kept.script.push(b'\n')?;
