@@ -138,5 +138,3 @@ class Store:
         first = kept[0].place
         self.fenced(fence, [gateway.delete(self.keys.place(0), self.keys.place(first + 1))])
         return first
-
-
