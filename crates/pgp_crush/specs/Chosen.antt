@@ -4,8 +4,8 @@ use Rattle.std.proofs.lemmas.Bool.{cases_Bool}
 use Rattle.std.proofs.lemmas.Bool.Decides.{nat_tests}
 use Rattle.std.proofs.lemmas.Grind.{common_steps}
 use Rattle.std.specs.Option.{unwrap_or}
-use Rattle.pgp_crush.specs.Least.{greatest_below}
-use Rattle.pgp_crush.specs.Choice.{partner_of, place_before, traced_back, uniform_place, weight_passes, list_place}
+use Rattle.pgp_crush.specs.Least.{least_from, least_below, greatest_below, first_least}
+use Rattle.pgp_crush.specs.Choice.{partner_of, place_before, traced_back, uniform_place, weight_passes, list_place, draw_at, straw2_place}
 
 partner_of_within : (x id n p : ℕ) → p < n → partner_of x id n p < n
 partner_of_within x id n p h = grind arith
@@ -36,6 +36,18 @@ unfolding list_place
 list_place_within x r id items weights h =
     greatest_below_within (weight_passes x r id items weights) (length items) (length items) (omega arith) h
 
+-- the first number from k on that passes stands before the end, and 0 does if none passes
+pub least_from_within : (test : ℕ → Bool) (k n m : ℕ) → k + n ≤ m → 0 < m → unwrap_or (least_from test k n) 0 < m
+unfolding least_from
+least_from_within test k zero m h g = g
+least_from_within test k (suc n) m h g =
+    let later : unwrap_or (least_from test (suc k) n) 0 < m = least_from_within test (suc k) n m (omega arith) g in
+    elim (cases_Bool (test k)) [ inl passes ↦ rw passes (omega arith) | inr fails ↦ rw fails later ]
+
+pub straw2_place_within : (x r : ℕ) (items : List ℤ) (weights : List ℕ) → 0 < length items → straw2_place x r items weights < length items
+unfolding straw2_place
+straw2_place_within x r items weights h = least_from_within _ 0 (length items) (length items) (omega arith) h
+
 item_at : (items : List ℤ) (k : ℕ) (d : ℤ) → k < length items → Contains items (slice_index_or items k d)
 item_at items k d h = (k, h, search (rules, common_steps))
 
@@ -46,3 +58,6 @@ uniform_chooses_item x r id items h =
 pub list_chooses_item : (x r id : ℕ) (items : List ℤ) (weights : List ℕ) → 0 < length items → Contains items (slice_index_or items (list_place x r id items weights) (pos 0))
 list_chooses_item x r id items weights h =
     item_at items (list_place x r id items weights) (pos 0) (list_place_within x r id items weights h)
+
+pub straw2_chooses_item : (x r : ℕ) (items : List ℤ) (weights : List ℕ) → 0 < length items → Contains items (slice_index_or items (straw2_place x r items weights) (pos 0))
+straw2_chooses_item x r items weights h = item_at items (straw2_place x r items weights) (pos 0) (straw2_place_within x r items weights h)

@@ -3,7 +3,7 @@ use Rattle.std.specs.Prelude.{ℕ, ℤ, zero, suc, ◌+◌, ◌*◌, ◌%◌, Li
 use Rattle.std.specs.List.{find}
 use Rattle.std.specs.Option.{option_map_or}
 use Rattle.pgp_ids.specs.declared.bucket.BucketAlg.{BucketAlg}
-use Rattle.pgp_ids.specs.declared.bucket.BucketAlg.TheVariants.{Uniform, List as Weighed}
+use Rattle.pgp_ids.specs.declared.bucket.BucketAlg.TheVariants.{Uniform, List as Weighed, Straw2}
 use Rattle.pgp_crush.specs.declared.descent.Rank.{Rank}
 use Rattle.pgp_crush.specs.declared.descent.Rank.TheVariants.{Same, Spread}
 use Rattle.pgp_crush.specs.declared.descent.Step.{Step}
@@ -18,6 +18,7 @@ use Rattle.pgp_crush.specs.Choice.{choice}
 abbrev pub is_multiple : BucketAlg → ℕ → ℕ → Bool
 is_multiple Uniform items n = nat_eq (items % n) 0
 is_multiple Weighed items n = false
+is_multiple Straw2 items n = false
 
 -- the number r with which a bucket chooses
 abbrev pub rank_at : Rank → Bucket → ℕ

@@ -1,6 +1,7 @@
 pub mod Bucket
 pub mod Choice
 pub mod Least
+pub mod Logarithm
 pub mod Descent
 pub mod Out
 pub mod Candidate

@@ -66,7 +66,7 @@ fn is_multiple(bucket: &BucketSpec, n: usize) -> bool
 {
     match bucket.alg {
         BucketAlg::Uniform => bucket.items.len().is_multiple_of(n),
-        BucketAlg::List => false,
+        BucketAlg::List | BucketAlg::Straw2 => false,
     }
 }
 

@@ -11,6 +11,7 @@ ghost use Rattle.pgp_crush.specs.Descent.{rank_limit, path, step_of, first_stop,
 use super::chooser::Chooser;
 use super::descent::{Descent, Rank, Step};
 use super::list::List;
+use super::straw2::Straw2;
 use super::tree::Tree;
 use super::uniform::Uniform;
 use pgp_ids::{BucketAlg, BucketSpec};
@@ -50,6 +51,10 @@ pub(crate) fn level_at<'a>(
         BucketAlg::List => {
             let weights = bucket.weights.as_slice();
             level_by(tree, &List { id, items, weights }, x, r, kind)
+        }
+        BucketAlg::Straw2 => {
+            let weights = bucket.weights.as_slice();
+            level_by(tree, &Straw2 { items, weights }, x, r, kind)
         }
     }
 }

@@ -10,6 +10,8 @@ pub enum BucketAlg {
     Uniform,
     /// Each item has a weight, and the last ones are tried first.
     List,
+    /// Each item has a weight, and draws by itself.
+    Straw2,
 }
 
 /// One bucket of a placement tree, as a map incremental gives it.
@@ -22,7 +24,7 @@ pub struct BucketSpec {
     pub alg: BucketAlg,
     /// The items in order: a bucket by its id, or a device by its number, which isn't negative.
     pub items: Seq<i32>,
-    /// The weights of the items in units of 1/0x10000, in a list bucket alone.
+    /// The weights of the items in units of 1/0x10000; a uniform bucket has none.
     pub weights: Seq<u32>,
     ghost low: { negsuc 65535 ≤ℤ id },
     ghost negative: { id <ℤ pos 0 },

@@ -4,7 +4,7 @@ use Rattle.std.specs.Str.{bytes_eq}
 use Rattle.serde_json.specs.Data.{Data}
 use Rattle.serde_json.specs.Find.{as_str}
 use Rattle.pgp_ids.specs.declared.bucket.BucketAlg.{BucketAlg}
-use Rattle.pgp_ids.specs.declared.bucket.BucketAlg.TheVariants.{Uniform, List as Weighed}
+use Rattle.pgp_ids.specs.declared.bucket.BucketAlg.TheVariants.{Uniform, List as Weighed, Straw2}
 use Rattle.pgp_ids.specs.declared.bucket.BucketSpec.{BucketSpec}
 use Rattle.pgp_lines.specs.Shapes.{integer_in, list_of, has_only, field, ◌>>=◌}
 use Rattle.pgp_lines.specs.Ids.{byte_in, word_in}
@@ -31,11 +31,13 @@ alg_in d = option_and_then alg_named (as_str d)
 abbrev pub bucket_keys : BucketAlg → List (List ℕ)
 bucket_keys Uniform = codes "alg" ∷ codes "id" ∷ codes "items" ∷ codes "type" ∷ []
 bucket_keys Weighed = codes "alg" ∷ codes "id" ∷ codes "items" ∷ codes "type" ∷ codes "weights" ∷ []
+bucket_keys Straw2 = bucket_keys Weighed
 
--- the weights, which a list bucket alone has
+-- the weights, of which a uniform bucket has none
 abbrev pub weights_in : BucketAlg → Data → Option (List ℕ)
 weights_in Uniform d = Some []
 weights_in Weighed d = field (codes "weights") (list_of word_in) d
+weights_in Straw2 d = field (codes "weights") (list_of word_in) d
 
 -- how a bucket chooses: an object with no keys but those of its kind
 abbrev pub alg_of : Data → Option BucketAlg

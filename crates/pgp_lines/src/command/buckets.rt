@@ -97,7 +97,7 @@ fn bucket_keys(alg: BucketAlg) -> &'static [&'static str]
 {
     match alg {
         BucketAlg::Uniform => &["alg", "id", "items", "type"],
-        BucketAlg::List => &["alg", "id", "items", "type", "weights"],
+        BucketAlg::List | BucketAlg::Straw2 => &["alg", "id", "items", "type", "weights"],
     }
 }
 
@@ -136,7 +136,7 @@ fn read_weights(
 {
     match alg {
         BucketAlg::Uniform => Ok(Some(Seq::new(alloc))),
-        BucketAlg::List => read_field(alloc, value, "weights"),
+        BucketAlg::List | BucketAlg::Straw2 => read_field(alloc, value, "weights"),
     }
 }
 
@@ -168,6 +168,6 @@ fn weight_count(alg: BucketAlg, items: usize) -> usize
 {
     match alg {
         BucketAlg::Uniform => 0,
-        BucketAlg::List => items,
+        BucketAlg::List | BucketAlg::Straw2 => items,
     }
 }

@@ -1,0 +1,64 @@
+//! Straw2 buckets, in which each item draws by itself.
+
+ghost use Rattle.std.specs.Prelude.{◌≡◌, ◌-◌, ◌%◌, ◌^◌, ◌<◌, pos, length, slice_index_or};
+ghost use Rattle.pgp_crush.specs.Logarithm.{logarithm};
+ghost use Rattle.pgp_crush.specs.Choice.{straw2_place};
+ghost use Rattle.pgp_crush.specs.Chosen.{straw2_chooses_item};
+
+use super::chooser::Chooser;
+use super::logarithm::logarithm;
+use pgp_hash::hash3;
+
+/// A straw2 bucket.
+#[derive(Clone, Copy)]
+pub struct Straw2<'a> {
+    /// Its items in order.
+    pub items: &'a [i32],
+    /// The weight of each, in units of 1/0x10000.
+    pub weights: &'a [u32],
+    ghost weighed: { length weights.now ≡ length items.now },
+}
+
+impl Chooser for Straw2<'_> {
+    ghost items = { λ c. c.items.now };
+
+    ghost choice = { λ c x r. slice_index_or c.items.now (straw2_place x r c.items.now c.weights.now) (pos 0) };
+
+    ghost chooses_item = { λ c x r h. straw2_chooses_item x r c.items.now c.weights.now h };
+
+    fn choose(&self, x: u32, r: u32) -> i32 {
+        self.items[straw2_place(x, r, self.items, self.weights)]
+    }
+}
+
+/// The place of the first item whose draw is the least.
+///
+/// A draw is a quotient, rounded down, so it is below a whole number where the quotient is; only a draw that leads is divided out.
+fn straw2_place(x: u32, r: u32, items: &[i32], weights: &[u32]) -> usize
+    requires some { 0 < length items.now }
+    requires weighed { length weights.now ≡ length items.now }
+    ensures value { result ≡ straw2_place x r items.now weights.now }
+    ensures within { result < length items.now }
+{
+    let mut place = 0;
+    let mut least = NO_DRAW;
+    for i in 0..items.len() {
+        let left = left_of(hash3(x, items[i].cast_unsigned(), r));
+        let weight = u64::from(weights[i]);
+        if u128::from(left) < u128::from(least) * u128::from(weight) {
+            least = left / weight;
+            place = i;
+        }
+    }
+    place
+}
+
+/// What an item of weight 0 draws.
+const NO_DRAW: u64 = 1 << 63;
+
+/// What the logarithm of a hash's lowest 16 bits leaves of 2^48.
+fn left_of(hash: u32) -> u64
+    ensures { result ≡ 2 ^ 48 - logarithm (hash % 2 ^ 16) }
+{
+    0x1_0000_0000_0000_u64.saturating_sub(logarithm((hash % 0x1_0000) as u16))
+}
