@@ -1,5 +1,5 @@
 -- What the tests of a map's tables say of the incrementals that made it.
-use Rattle.std.proofs.Common.{◌≡◌, ℕ, List, [], ◌∷◌, map, Bool, true, false, ◌||◌, ◌&&◌, not, cond, refl, sym, ◌∙◌, arith}
+use Rattle.std.proofs.Common.{◌≡◌, ◌<◌, ℕ, List, [], ◌∷◌, length, map, Bool, true, false, ◌||◌, ◌&&◌, not, cond, refl, sym, ◌∙◌, arith}
 use Rattle.std.specs.Prelude.{Option, Some}
 use Rattle.std.specs.List.{list_any}
 use Rattle.std.specs.Option.{option_or}
@@ -12,10 +12,10 @@ use Rattle.pgp_ids.specs.declared.incremental.Incremental.{Incremental}
 use Rattle.pgp_map.specs.declared.findings.Findings.{Findings}
 use Rattle.pgp_lists.proofs.Lists.{any-mapped}
 use Rattle.pgp_map.specs.declared.fault.MapFault.{MapFault}
-use Rattle.pgp_map.specs.declared.fault.MapFault.TheVariants.{EpochGap, Memory}
+use Rattle.pgp_map.specs.declared.fault.MapFault.TheVariants.{EpochGap, Memory, Twice}
 use Rattle.pgp_map.specs.Devices.{boots, takes_down, destroys, is_up}
 use Rattle.pgp_map.specs.Findings.{first_of, AreFindings}
-use Rattle.pgp_map.specs.MapFault.{map_fault, given_fault, has_epoch_gap, devices_that_must_exist, then_with}
+use Rattle.pgp_map.specs.MapFault.{map_fault, given_fault, has_epoch_gap, has_twice, devices_that_must_exist, then_with}
 use Rattle.pgp_map.specs.Memory.{is_filled}
 use Rattle.pgp_map.proofs.DeviceLemmas.{is_up-push}
 
@@ -40,15 +40,24 @@ pub gap-found : (incs : List Incremental) (inc : Incremental) → has_epoch_gap 
 unfolding map_fault
 gap-found incs inc gap = rw gap refl
 
--- the first of the findings is the first fault of an incremental of the next epoch, or the tree's where there is none
-pub fault-found : (incs : List Incremental) (inc : Incremental) (f : Findings) (found : Option MapFault) → has_epoch_gap incs inc ≡ false → AreFindings incs inc f
-    → first_of f ≡ found → map_fault incs inc ≡ option_or found (given_fault inc.crush)
+-- one of the next epoch is refused for what is in it twice
+pub twice-found : (incs : List Incremental) (inc : Incremental) → has_epoch_gap incs inc ≡ false → has_twice inc ≡ true → map_fault incs inc ≡ Some Twice
 unfolding map_fault
-fault-found incs inc f found next are is = grind arith
+twice-found incs inc next twice = rw (next, twice) refl
+
+-- the first of the findings is the first fault of an incremental of the next epoch in which nothing is twice, or the tree's where there is none
+pub fault-found : (incs : List Incremental) (inc : Incremental) (f : Findings) (found : Option MapFault) → has_epoch_gap incs inc ≡ false → has_twice inc ≡ false
+    → AreFindings incs inc f → first_of f ≡ found → map_fault incs inc ≡ option_or found (given_fault inc.crush)
+unfolding map_fault
+fault-found incs inc f found next once are is = grind arith
 
 -- no finding is that memory was lacking
 pub found-otherwise : (f : Findings) → first_of f ≡ Some Memory → ⊥
 found-otherwise f memory = grind arith
+
+-- a list that has an item
+pub is_filled-at : {X : Type 0} (xs : List X) (n : ℕ) → n < length xs → is_filled xs ≡ true
+is_filled-at xs n here = grind (arith, here, nat_tests)
 
 -- a list of buckets for which memory may be lacking has a bucket
 pub lacks-filled : (buckets : List BucketSpec) → may_lack_memory (map bucket_of buckets) ≡ true → is_filled buckets ≡ true

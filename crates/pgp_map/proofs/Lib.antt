@@ -2,7 +2,7 @@ pub mod DeviceLemmas
 pub mod WeightLemmas
 pub mod FaultLemmas
 pub mod MapLemmas
-pub mod MemoryLemmas
+pub mod NumberSetLemmas
 pub mod RepeatLemmas
 pub mod CheckLemmas
 pub mod CheckedLemmas

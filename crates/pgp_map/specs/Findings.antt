@@ -1,16 +1,15 @@
--- The tests that an incremental of the next epoch fails, its tree aside.
+-- The tests that an incremental of the next epoch fails in which nothing is twice, its tree aside.
 use Rattle.std.specs.Prelude.{◌≡◌, List, false, Option, Some, None, if◌then◌else◌}
 use Rattle.pgp_ids.specs.declared.incremental.Incremental.{Incremental}
 use Rattle.pgp_map.specs.declared.fault.MapFault.{MapFault}
-use Rattle.pgp_map.specs.declared.fault.MapFault.TheVariants.{Twice, UnknownDevice, AlreadyUp, AlreadyDown, StillUp, UpThruBack, Ahead, BadPool, PoolKnown, BadTemp}
+use Rattle.pgp_map.specs.declared.fault.MapFault.TheVariants.{UnknownDevice, AlreadyUp, AlreadyDown, StillUp, UpThruBack, Ahead, BadPool, PoolKnown, BadTemp}
 use Rattle.pgp_map.specs.declared.findings.Findings.{Findings}
-use Rattle.pgp_map.specs.MapFault.{has_twice, has_unknown_device, has_already_up, has_already_down, has_still_up, has_up_thru_back, has_ahead, has_bad_pool, has_pool_known, has_bad_temp}
+use Rattle.pgp_map.specs.MapFault.{has_unknown_device, has_already_up, has_already_down, has_still_up, has_up_thru_back, has_ahead, has_bad_pool, has_pool_known, has_bad_temp}
 
 -- the first of them
 abbrev pub first_of : Findings → Option MapFault
 first_of f =
-    if f.twice then Some Twice
-    else (if f.unknown_device then Some UnknownDevice
+    if f.unknown_device then Some UnknownDevice
     else (if f.already_up then Some AlreadyUp
     else (if f.already_down then Some AlreadyDown
     else (if f.still_up then Some StillUp
@@ -18,11 +17,10 @@ first_of f =
     else (if f.ahead then Some Ahead
     else (if f.bad_pool then Some BadPool
     else (if f.pool_known then Some PoolKnown
-    else (if f.bad_temp then Some BadTemp else None)))))))))
+    else (if f.bad_temp then Some BadTemp else None))))))))
 
 -- these are the tests that the incremental fails after those before it; that of temp depends on the pools that aren't known
 pub record AreFindings (incs : List Incremental) (inc : Incremental) (f : Findings) : Type 0 where
-  pub twice_is : f.twice ≡ has_twice inc
   pub unknown_device_is : f.unknown_device ≡ has_unknown_device incs inc
   pub already_up_is : f.already_up ≡ has_already_up incs inc
   pub already_down_is : f.already_down ≡ has_already_down incs inc

@@ -13,3 +13,4 @@ pub mod Room
 pub mod Examples
 pub mod Findings
 pub mod Memory
+pub mod NumberSet

@@ -5,10 +5,9 @@ ghost use Rattle.pgp_map.specs.Findings.{first_of};
 
 use super::fault::MapFault;
 
-/// The tests that an incremental of the next epoch fails, its tree aside.
+/// The tests that an incremental of the next epoch fails in which nothing is twice, its tree aside.
 #[derive(Clone, Copy)]
 pub(crate) struct Findings {
-    pub twice: bool,
     pub unknown_device: bool,
     pub already_up: bool,
     pub already_down: bool,
@@ -25,9 +24,7 @@ impl Findings {
     pub fn first(&self) -> Option<MapFault>
         ensures { result ≡ first_of self.now }
     {
-        if self.twice {
-            Some(MapFault::Twice)
-        } else if self.unknown_device {
+        if self.unknown_device {
             Some(MapFault::UnknownDevice)
         } else if self.already_up {
             Some(MapFault::AlreadyUp)

@@ -11,11 +11,11 @@
 #![tactic(auto)]
 
 mod fault;
-mod few;
 mod findings;
 pub mod laws;
 mod map;
-mod new_pools;
+mod new_pool;
+mod number_set;
 mod ranges;
 mod repeats;
 mod searched_devices;

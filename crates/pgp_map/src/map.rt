@@ -3,7 +3,7 @@
 ghost use Rattle.std.specs.Prelude.{◌≡◌, ◌≤◌, [], true, Some, None, Err, OnOk, OnErr, IfOk, IfErr, ◌⊎◌, option_copied, option_map, map, length, false};
 ghost use Rattle.pgp_crush.specs.Bucket.{bucket_of};
 ghost use Rattle.pgp_map.specs.Room.{HasRoom};
-ghost use Rattle.pgp_map.specs.Memory.{has_long_list, MayLackMemory, may_grow};
+ghost use Rattle.pgp_map.specs.Memory.{is_filled, MayLackMemory, may_grow};
 ghost use Rattle.pgp_map.specs.MapOf.{IsMapOf, Says};
 ghost use Rattle.pgp_map.specs.Held.{held_exists, held_up, held_lost_at, held_pool};
 ghost use Rattle.pgp_map.specs.Devices.{exists, is_up, up_from, down_at, up_thru, lost_at, weight, weights};
@@ -14,7 +14,6 @@ ghost use Rattle.pgp_map.specs.Findings.{AreFindings};
 
 use super::fault::MapFault;
 use super::findings::Findings;
-use super::new_pools::NewPools;
 use super::searched_devices::SearchedDevices;
 use super::trees::{check_tree, given_tree};
 use super::weights::Weights;
@@ -75,8 +74,8 @@ impl OsdMap {
     }
 
     /// Whether the incremental can be applied. It can't if it has a fault, of which the first in the order of [`MapFault`] is
-    /// answered; or there was no memory to look at it. Memory is taken only for an incremental of the next epoch that has a
-    /// list of more than sixteen items, or for a tree where the rest has no fault. The map stays as it is.
+    /// answered; or there was no memory to look at it. Memory is taken only for an incremental of the next epoch: for its pg_temp
+    /// lists, and for its tree where the rest has no fault. The map stays as it is.
     pub fn check(&self, inc: &Incremental) -> Result<(), MapFault>
         ensures ok { OnOk result (Says self.now (λ incs. map_fault incs inc.now ≡ None)) }
         ensures tree { OnOk result (given_fault inc.now.crush ≡ None) }
@@ -86,33 +85,30 @@ impl OsdMap {
         if self.has_epoch_gap(inc) {
             return Err(MapFault::EpochGap);
         }
-        match self.findings(inc)?.first() {
+        if repeats::has_twice(self.alloc, inc)? {
+            return Err(MapFault::Twice);
+        }
+        match self.findings(inc).first() {
             Some(fault) => Err(fault),
             None => check_tree(self.alloc, &inc.crush),
         }
     }
 
-    /// The tests that the incremental of the next epoch fails, its tree aside.
-    fn findings(&self, inc: &Incremental) -> Result<Findings, AllocError>
-        ensures value { IfOk result (λ findings. Says self.now (λ incs. AreFindings incs inc.now findings)) }
-        ensures wants { OnErr result (has_long_list inc.now ≡ true) }
+    /// The tests that the incremental of the next epoch fails in which nothing is twice, its tree aside.
+    fn findings(&self, inc: &Incremental) -> Findings
+        ensures { Says self.now (λ incs. AreFindings incs inc.now result) }
     {
-        let twice = repeats::has_twice(self.alloc, inc)?;
-        let unknown_device = self.has_unknown_device(inc)?;
-        let still_up = self.has_still_up(inc)?;
-        let bad_temp = self.has_bad_temp(inc)?;
-        Ok(Findings {
-            twice,
-            unknown_device,
+        Findings {
+            unknown_device: self.has_unknown_device(inc),
             already_up: standing::has_up(&self.devices, inc.up.as_slice()),
             already_down: standing::has_down(&self.devices, inc.down.as_slice()),
-            still_up,
+            still_up: self.has_still_up(inc),
             up_thru_back: standing::has_up_thru_back(&self.devices, inc.up_thru.as_slice()),
             ahead: has_ahead(inc),
             bad_pool: self.has_bad_pool(inc),
             pool_known: ranges::has_known(&self.pools, inc.pools.as_slice()),
-            bad_temp,
-        })
+            bad_temp: temp_check::has_bad_temp(&self.pools, inc),
+        }
     }
 
     /// The incremental's epoch isn't the one after the map's.
@@ -123,46 +119,29 @@ impl OsdMap {
     }
 
     /// Down, gone, weight, up_thru or lost names a device that is absent and doesn't boot.
-    fn has_unknown_device(&self, inc: &Incremental) -> Result<bool, AllocError>
-        ensures value { IfOk result (λ unknown. Says self.now (λ incs. unknown ≡ has_unknown_device incs inc.now)) }
-        ensures wants { OnErr result (has_long_list inc.now ≡ true) }
+    fn has_unknown_device(&self, inc: &Incremental) -> bool
+        ensures { Says self.now (λ incs. result ≡ has_unknown_device incs inc.now) }
     {
-        let boots = SearchedDevices::of(self.alloc, inc.up.as_slice())?;
-        Ok(standing::has_unknown(&self.devices, &boots, inc))
+        let boots = SearchedDevices::of(inc.up.as_slice());
+        standing::has_unknown(&self.devices, &boots, inc)
     }
 
     /// A device is destroyed that is up, or given up for lost that is up in the new map.
-    fn has_still_up(&self, inc: &Incremental) -> Result<bool, AllocError>
-        ensures value { IfOk result (λ up. Says self.now (λ incs. up ≡ has_still_up incs inc.now)) }
-        ensures wants { OnErr result (has_long_list inc.now ≡ true) }
+    fn has_still_up(&self, inc: &Incremental) -> bool
+        ensures { Says self.now (λ incs. result ≡ has_still_up incs inc.now) }
     {
-        let destroyed = standing::has_up(&self.devices, inc.gone.as_slice());
-        let lost = self.has_lost_up(inc)?;
-        Ok(destroyed || lost)
+        standing::has_up(&self.devices, inc.gone.as_slice()) || self.has_lost_up(inc)
     }
 
     /// A device is given up for lost that is up in the new map.
-    fn has_lost_up(&self, inc: &Incremental) -> Result<bool, AllocError>
-        ensures value { IfOk result (λ up. Says self.now (λ incs. up ≡ has_lost_up incs inc.now)) }
-        ensures wants { OnErr result (has_long_list inc.now ≡ true) }
+    fn has_lost_up(&self, inc: &Incremental) -> bool
+        ensures { Says self.now (λ incs. result ≡ has_lost_up incs inc.now) }
     {
-        if inc.lost.is_empty() {
-            return Ok(false);
-        }
-        let boots = SearchedDevices::of(self.alloc, inc.up.as_slice())?;
-        let downs = SearchedDevices::of(self.alloc, inc.down.as_slice())?;
-        let destroyed = SearchedDevices::of(self.alloc, inc.gone.as_slice())?;
+        let boots = SearchedDevices::of(inc.up.as_slice());
+        let downs = SearchedDevices::of(inc.down.as_slice());
+        let destroyed = SearchedDevices::of(inc.gone.as_slice());
         let told = inc.lost.as_slice();
-        Ok(standing::has_lost_up(&self.devices, &boots, &downs, &destroyed, told))
-    }
-
-    /// A group is given a list that it can't have in the new map, by pools that aren't known.
-    fn has_bad_temp(&self, inc: &Incremental) -> Result<bool, AllocError>
-        ensures value { IfOk result (λ bad. Says self.now (λ incs. has_pool_known incs inc.now ≡ false → bad ≡ has_bad_temp incs inc.now)) }
-        ensures wants { OnErr result (has_long_list inc.now ≡ true) }
-    {
-        let pools = NewPools::of(self.alloc, inc.pools.as_slice(), inc.sizes.as_slice())?;
-        Ok(temp_check::has_bad_temp(&self.pools, &pools, inc.temp.as_slice()))
+        standing::has_lost_up(&self.devices, &boots, &downs, &destroyed, told)
     }
 
     /// A pool is made of numbers out of range or given sizes to which it can't change, or there are too many groups.

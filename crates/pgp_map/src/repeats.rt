@@ -1,103 +1,120 @@
-//! Lists in which an item is twice.
+//! Lists in which something is named twice.
 
-ghost use Rattle.std.specs.Prelude.{◌≡◌, ◌++◌, ◌||◌, map, true, nat_eq, IfOk, OnErr};
+ghost use Rattle.std.specs.Prelude.{◌≡◌, ◌++◌, ◌||◌, ◌≤◌, ℕ, map, false, true, nat_eq, IfOk, OnErr};
+ghost use Rattle.std.specs.List.{list_any};
 ghost use Rattle.pgp_lists.specs.Repeats.{has_repeat};
 ghost use Rattle.pgp_map.specs.MapFault.{has_twice};
-ghost use Rattle.pgp_map.specs.Memory.{is_long, has_long_list};
+ghost use Rattle.pgp_map.specs.Memory.{is_filled};
+ghost use Rattle.pgp_map.specs.NumberSet.{has};
 ghost use Rattle.pgp_map.specs.Pools.{is_same_group};
 
-use super::few::{FEW, has_equal_pair, name_twice, size_twice};
-use pgp_ids::{DeviceEpoch, DeviceWeight, Incremental, PoolId, PoolSizes, PoolSpec, TempList};
+use super::number_set::NumberSet;
+use pgp_ids::{DeviceEpoch, DeviceWeight, Incremental, OsdId, PoolSizes, PoolSpec, TempList};
 use pgp_lists::has_repeat;
 use std::alloc::{AllocError, Global};
 
-/// Something is there twice where it may be once.
-pub(crate) fn has_twice(alloc: Global, inc: &Incremental) -> Result<bool, AllocError>
-    ensures value { IfOk result (λ twice. twice ≡ has_twice inc.now) }
-    ensures wants { OnErr result (has_long_list inc.now ≡ true) }
+/// A part of an incremental that names a device or a pool.
+trait Naming {
+    ghost name: { Self → ℕ };
+
+    /// The number of the device or pool.
+    fn number(&self) -> u16
+        ensures value { result ≡ name self.now }
+        ensures in_range { result ≤ 4095 };
+}
+
+impl Naming for OsdId {
+    ghost name = { λ osd. osd };
+
+    fn number(&self) -> u16 {
+        OsdId::number(*self)
+    }
+}
+
+impl Naming for DeviceWeight {
+    ghost name = { λ given. given.osd };
+
+    fn number(&self) -> u16 {
+        self.osd.number()
+    }
+}
+
+impl Naming for DeviceEpoch {
+    ghost name = { λ told. told.osd };
+
+    fn number(&self) -> u16 {
+        self.osd.number()
+    }
+}
+
+impl Naming for PoolSpec {
+    ghost name = { λ pool. pool.id };
+
+    fn number(&self) -> u16 {
+        self.id.number().into()
+    }
+}
+
+impl Naming for PoolSizes {
+    ghost name = { λ given. given.pool };
+
+    fn number(&self) -> u16 {
+        self.pool.number().into()
+    }
+}
+
+/// What the items name is put into the set, up to the first that is there already. Answers whether there is one.
+fn meets<T: Naming>(seen: &mut NumberSet, items: &[T]) -> bool
+    ensures value { result ≡ (has_repeat nat_eq (map T.name items.now) || list_any (has seen.old) (map T.name items.now)) }
+    ensures put { result ≡ false → (n : ℕ) → has seen.new n ≡ (list_any (nat_eq n) (map T.name items.now) || has seen.old n) }
 {
-    Ok(
-        changes_twice(alloc, inc)?
-            || weighs_twice(alloc, inc.weight.as_slice())?
-            || tells_twice(alloc, inc.up_thru.as_slice())?
-            || tells_twice(alloc, inc.lost.as_slice())?
-            || sizes_twice(alloc, inc.pools.as_slice(), inc.sizes.as_slice())?
-            || lists_twice(alloc, inc.temp.as_slice())?,
-    )
+    for item in items {
+        if !seen.insert(item.number()) {
+            return true;
+        }
+    }
+    false
+}
+
+/// Something is named twice in the list.
+fn names_twice<T: Naming>(items: &[T]) -> bool
+    ensures { result ≡ has_repeat nat_eq (map T.name items.now) }
+{
+    meets(&mut NumberSet::empty(), items)
 }
 
 /// A device is twice among those that boot, are taken down or are destroyed.
-#[tactic(auto, using(std::proofs::lemmas::Bool::Decides::nat_tests))]
-fn changes_twice(alloc: Global, inc: &Incremental) -> Result<bool, AllocError>
-    ensures value { IfOk result (λ twice. twice ≡ has_repeat nat_eq (inc.now.up ++ inc.now.down ++ inc.now.gone)) }
-    ensures wants { OnErr result (has_long_list inc.now ≡ true) }
+fn changes_twice(inc: &Incremental) -> bool
+    ensures { result ≡ has_repeat nat_eq (inc.now.up ++ inc.now.down ++ inc.now.gone) }
 {
-    let (up, down, gone) = (inc.up.as_slice(), inc.down.as_slice(), inc.gone.as_slice());
-    if up.len() <= FEW && down.len() <= FEW && gone.len() <= FEW {
-        return Ok(name_twice(up, down, gone));
+    let mut seen = NumberSet::empty();
+    if meets(&mut seen, inc.up.as_slice()) {
+        return true;
     }
-    let mut osds = Vec::from_slice(alloc, up)?;
-    osds.extend_from_slice(down)?;
-    osds.extend_from_slice(gone)?;
-    has_repeat(alloc, &osds)
-}
-
-/// A device is given two weights.
-#[tactic(auto, using(crate::proofs::RepeatLemmas::repeat_steps, std::proofs::lemmas::Bool::Decides::nat_tests))]
-fn weighs_twice(alloc: Global, weights: &[DeviceWeight]) -> Result<bool, AllocError>
-    ensures value { IfOk result (λ twice. twice ≡ has_repeat nat_eq (map (λ entry. entry.osd) weights.now)) }
-    ensures wants { OnErr result (is_long weights.now ≡ true) }
-{
-    if weights.len() <= FEW {
-        return Ok(has_equal_pair(weights));
+    if meets(&mut seen, inc.down.as_slice()) {
+        return true;
     }
-    let mut osds = Vec::new(alloc);
-    for entry in weights {
-        osds.push(entry.osd)?;
-    }
-    has_repeat(alloc, &osds)
-}
-
-/// Two epochs are told of a device.
-#[tactic(auto, using(crate::proofs::RepeatLemmas::repeat_steps, std::proofs::lemmas::Bool::Decides::nat_tests))]
-fn tells_twice(alloc: Global, told: &[DeviceEpoch]) -> Result<bool, AllocError>
-    ensures value { IfOk result (λ twice. twice ≡ has_repeat nat_eq (map (λ entry. entry.osd) told.now)) }
-    ensures wants { OnErr result (is_long told.now ≡ true) }
-{
-    if told.len() <= FEW {
-        return Ok(has_equal_pair(told));
-    }
-    let mut osds = Vec::new(alloc);
-    for entry in told {
-        osds.push(entry.osd)?;
-    }
-    has_repeat(alloc, &osds)
+    meets(&mut seen, inc.gone.as_slice())
 }
 
 /// A pool is twice among those that are made or given sizes.
-#[tactic(auto, using(std::proofs::lemmas::Bool::Decides::nat_tests))]
-fn sizes_twice(alloc: Global, made: &[PoolSpec], sizes: &[PoolSizes]) -> Result<bool, AllocError>
-    ensures value { IfOk result (λ twice. twice ≡ has_repeat nat_eq (map (λ pool. pool.id) made.now ++ map (λ given. given.pool) sizes.now)) }
-    ensures wants { OnErr result ((is_long made.now || is_long sizes.now) ≡ true) }
+fn sizes_twice(inc: &Incremental) -> bool
+    ensures { result ≡ has_repeat nat_eq (map (λ pool. pool.id) inc.now.pools ++ map (λ given. given.pool) inc.now.sizes) }
 {
-    if made.len() <= FEW && sizes.len() <= FEW {
-        return Ok(size_twice(made, sizes));
+    let mut seen = NumberSet::empty();
+    if meets(&mut seen, inc.pools.as_slice()) {
+        return true;
     }
-    let mut pools = made_pools(alloc, made)?;
-    for given in sizes {
-        pools.push(given.pool)?;
-    }
-    has_repeat(alloc, &pools)
+    meets(&mut seen, inc.sizes.as_slice())
 }
 
 /// A group is given two pg_temp lists.
-#[tactic(auto, using(crate::proofs::RepeatLemmas::repeat_steps, std::proofs::lemmas::Bool::Decides::nat_tests))]
 fn lists_twice(alloc: Global, temps: &[TempList]) -> Result<bool, AllocError>
     ensures value { IfOk result (λ twice. twice ≡ has_repeat is_same_group (map (λ given. given.pg) temps.now)) }
-    ensures wants { OnErr result (is_long temps.now ≡ true) }
+    ensures wants { OnErr result (is_filled temps.now ≡ true) }
 {
-    if temps.len() <= FEW {
-        return Ok(has_equal_pair(temps));
+    if temps.is_empty() {
+        return Ok(false);
     }
     let mut groups = Vec::new(alloc);
     for given in temps {
@@ -106,13 +123,17 @@ fn lists_twice(alloc: Global, temps: &[TempList]) -> Result<bool, AllocError>
     has_repeat(alloc, &groups)
 }
 
-/// The pools that are made.
-fn made_pools(alloc: Global, made: &[PoolSpec]) -> Result<Vec<PoolId>, AllocError>
-    ensures { IfOk result (λ pools. pools.items ≡ map (λ pool. pool.id) made.now) }
+/// Something is there twice where it may be once.
+pub(crate) fn has_twice(alloc: Global, inc: &Incremental) -> Result<bool, AllocError>
+    ensures value { IfOk result (λ twice. twice ≡ has_twice inc.now) }
+    ensures wants { OnErr result (is_filled inc.now.temp ≡ true) }
 {
-    let mut pools = Vec::new(alloc);
-    for pool in made {
-        pools.push(pool.id)?;
-    }
-    Ok(pools)
+    Ok(
+        changes_twice(inc)
+            || names_twice(inc.weight.as_slice())
+            || names_twice(inc.up_thru.as_slice())
+            || names_twice(inc.lost.as_slice())
+            || sizes_twice(inc)
+            || lists_twice(alloc, inc.temp.as_slice())?,
+    )
 }

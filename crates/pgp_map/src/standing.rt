@@ -15,7 +15,7 @@ use std::collections::HashMap;
 fn is_unknown(table: &HashMap<OsdId, Device>, boots: &SearchedDevices, osd: OsdId) -> bool
     ensures { result ≡ not ((device_at table.now osd).exists || list_any (nat_eq osd) boots.now.osds.now) }
 {
-    !(device_at(table, osd).exists || boots.contains(&osd))
+    !(device_at(table, osd).exists || boots.contains(osd))
 }
 
 /// One of the devices is unknown.
@@ -94,8 +94,8 @@ pub(crate) fn has_lost_up(
     ensures { result ≡ list_any (λ entry. list_any (nat_eq entry.osd) boots.now.osds.now || not (list_any (nat_eq entry.osd) downs.now.osds.now || list_any (nat_eq entry.osd) destroyed.now.osds.now) && (device_at table.now entry.osd).is_up) told.now }
 {
     told.iter().any(|entry| {
-        boots.contains(&entry.osd)
-            || !(downs.contains(&entry.osd) || destroyed.contains(&entry.osd))
+        boots.contains(entry.osd)
+            || !(downs.contains(entry.osd) || destroyed.contains(entry.osd))
                 && device_at(table, entry.osd).is_up
     })
 }

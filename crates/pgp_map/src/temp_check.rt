@@ -6,8 +6,8 @@ ghost use Rattle.pgp_lists.specs.Repeats.{has_repeat};
 ghost use Rattle.pgp_map.specs.MapFault.{is_bad_list, has_bad_places};
 ghost use Rattle.pgp_tables.specs.PoolTable.{new_pool};
 
-use super::new_pools::NewPools;
-use pgp_ids::{MAX_OSDS, OsdId, Place, PoolId, PoolSpec, TempList};
+use super::new_pool::new_pool;
+use pgp_ids::{Incremental, MAX_OSDS, OsdId, Place, PoolId, PoolSpec, TempList};
 use std::collections::HashMap;
 
 /// A device is twice among the places.
@@ -67,14 +67,12 @@ fn is_bad_list(pool: Option<PoolSpec>, given: &TempList) -> bool
 }
 
 /// A group is given a list that it can't have in the new map.
-pub(crate) fn has_bad_temp(
-    old: &HashMap<PoolId, PoolSpec>,
-    pools: &NewPools,
-    temps: &[TempList],
-) -> bool
-    ensures { result ≡ list_any (λ given. is_bad_list (new_pool old.now pools.now.made.now pools.now.sizes.now given.pg.pool) given) temps.now }
+pub(crate) fn has_bad_temp(old: &HashMap<PoolId, PoolSpec>, inc: &Incremental) -> bool
+    ensures { result ≡ list_any (λ given. is_bad_list (new_pool old.now inc.now.pools inc.now.sizes given.pg.pool) given) inc.now.temp }
 {
-    temps
-        .iter()
-        .any(|given| is_bad_list(pools.pool(old, given.pg.pool), given))
+    let (made, sizes) = (inc.pools.as_slice(), inc.sizes.as_slice());
+    inc.temp.as_slice().iter().any(|given| is_bad_list(
+        new_pool(old, made, sizes, given.pg.pool),
+        given,
+    ))
 }

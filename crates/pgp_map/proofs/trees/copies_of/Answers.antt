@@ -2,7 +2,7 @@ use Rattle.std.proofs.Common.{◌∙◌, ap, map}
 use Rattle.std.proofs.lemmas.List.{take_all}
 use Rattle.pgp_crush.specs.Bucket.{bucket_of}
 use Rattle.pgp_lists.proofs.Results.{on_err}
-use Rattle.pgp_map.proofs.MemoryLemmas.{is_filled-at}
+use Rattle.pgp_map.proofs.CheckLemmas.{is_filled-at}
 use Rattle.pgp_map.proofs.trees.copies_of.Goals as goal
 
 pub returns-in_err-copy-clause-wants : goal.returns-in_err-copy-clause-wants

@@ -3,15 +3,15 @@ use Rattle.std.specs.List.{list_any}
 use Rattle.pgp_map.proofs.CheckLemmas.{up_after}
 use Rattle.pgp_map.proofs.map.OsdMap.has_lost_up.Goals as goal
 
-pub returns-clause-value : goal.returns-clause-value
-returns-clause-value c = λ incs is.
+pub returns : goal.returns
+returns c = λ incs is.
     simp (
       c.as_slice-told.ensures,
-      c.in_ok-boots.ensures.ok,
+      c.of-boots.ensures,
       c.as_slice.ensures,
-      c.in_ok-downs.ensures.ok,
+      c.of-downs.ensures,
       c.as_slice-2.ensures,
-      c.in_ok-destroyed.ensures.ok,
+      c.of-destroyed.ensures,
       c.as_slice-3.ensures,
       is.devices_are,
     ) at c.has_lost_up.ensures
