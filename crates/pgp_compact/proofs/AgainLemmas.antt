@@ -1,5 +1,5 @@
 -- A log that was compacted and goes on is compacted to what the whole log is, if that goes on so.
-use Rattle.pgp_compact.proofs.Common.{AnyCode, Bool, Contains, Contains-here, Contains-later, Entry, GroupLog, History, Incremental, Info, List, LogEntry, None, Option, PgId, Report, Some, Span, [], and_parts, any-contains, any-same, ap, ap₂, are_checked, arith, cases_Bool, clean_spans, compacted, contains-any, counts_by, current_span, epoch, false, filter-append, filter-contains, filter_map-append, filter_map-from, group_history, group_in, group_with, has_number, incs, incs_of, info_of, infos, infos_in, is_clean_from, is_counted, is_needed, is_same_group, is_within, les, list_any, list_any-append, may_be_heard, nat_eq, nat_le, nat_lt, nat_tests, needed_of, needs_info, needs_report, none-narrower, not, option_map, past_spans, refl, replaces, replaces_number, report_of, reports_in, same_member, starts_as_late, sym, tells_last_clean, tells_last_of, tells_last_start, true, ℕ, ◌&&◌, ◌++◌, ◌+◌, ◌||◌, ◌∙◌, ◌∷◌, ◌≡◌, ◌≤◌}
+use Rattle.pgp_compact.proofs.Common.{AnyCode, Bool, Contains, Contains-here, Contains-later, Entry, GroupLog, History, Incremental, Info, List, LogEntry, None, Option, PgId, Report, Some, Span, [], and_parts, any-contains, any-same, ap, ap₂, are_checked, arith, cases_Bool, clean_spans, compacted, contains-any, counts_by, current_span, epoch, false, filter-append, filter-contains, filter_map-append, filter_map-from, group_history, group_in, group_with, has_number, incs, incs_of, info_of, infos, infos_in, is_clean_from, is_counted, is_needed, is_same_group, is_within, les, list_any, list_any-append, may_be_heard, nat_eq, nat_le, nat_lt, nat_tests, needed_of, needs_info, needs_report, none-narrower, not, option_map, past_spans, refl, replaces, replaces_number, report_of, reports_in, same_member, starts_as_late, sym, tells_last_clean, tells_last_of, tells_last_start, true, ℕ, ◌&&◌, ◌++◌, ◌+◌, ◌||◌, ◌∙◌, ◌∷◌, ◌≡◌, ◌≤◌, any-agree}
 use Rattle.pgp_compact.proofs.GoneOnLemmas.{IsSent, NeverCountsAgain, WasSent, all-told, before, clean-alike, incs-alike, infos-are, infos-whole, les-alike, less, whole}
 use Rattle.pgp_compact.proofs.IntervalLemmas.{CanMatter, span_ending, spans-are, was-among}
 use Rattle.pgp_compact.proofs.LegalLemmas.{group-stays}
@@ -28,10 +28,6 @@ needed-again {X = X} Holds first second more keep drop' (x ∷ xs) each =
 
 none-front : {X : Type 0} (test : X → Bool) (xs ys : List X) → list_any test (xs ++ ys) ≡ false → list_any test xs ≡ false
 none-front test xs ys none = grind (arith, cases_Bool (list_any test xs), list_any-append test xs ys)
-
-any-agree : {X : Type 0} (f g : X → Bool) (xs : List X) → ((x : X) → Contains xs x → f x ≡ g x) → list_any f xs ≡ list_any g xs
-any-agree f g [] same = refl
-any-agree f g (x ∷ xs) same = ap₂ (λ a b. a || b) (same x (Contains-here x xs)) (any-agree f g xs (λ y there. same y (Contains-later x xs y there)))
 
 same-and : (c a b : Bool) → (c ≡ true → a ≡ b) → (c && not a) ≡ (c && not b)
 same-and false a b same = refl

@@ -58,12 +58,13 @@ pub use Rattle.pgp_interval.specs.ReadWrite.{can_write, is_recorded, was_clean}
 pub use Rattle.pgp_interval.specs.Runs.{current_ending, ends_at, opening_of, opens_at, past_ending, past_ends, past_of}
 pub use Rattle.pgp_lists.proofs.Last.{last_or-append}
 pub use Rattle.pgp_lists.proofs.Lists.{any-mapped, any-same, get-last, get-set_other, get-set_same}
-pub use Rattle.pgp_lists.proofs.Members.{map-agree}
+pub use Rattle.pgp_lists.proofs.Members.{any-agree, map-agree}
 pub use Rattle.pgp_lists.proofs.Ordered.{ascending-unique}
 pub use Rattle.pgp_lists.proofs.Pairs.{AllPairs-weaker}
 pub use Rattle.pgp_lists.specs.Last.{last_where}
 pub use Rattle.pgp_group.proofs.ViewLemmas.{history_there}
-pub use Rattle.pgp_lists.proofs.Options.{some_is}
+pub use Rattle.pgp_lists.proofs.Options.{map_none, some_is}
+pub use Rattle.pgp_lists.proofs.Ranges.{range-contains}
 pub use Rattle.pgp_log.proofs.ComingLemmas.{comes-with_pool, has_group-same}
 pub use Rattle.pgp_log.proofs.FitsLemmas.{nothing_ahead}
 pub use Rattle.pgp_log.proofs.GroupsLemmas.{same-self}

@@ -1,5 +1,5 @@
 -- Intervals stay as the history goes on, and lie one after another.
-use Rattle.pgp_compact.proofs.Common.{AnyCode, Bool, Contains, GroupLog, HasReached, History, Incremental, LieApart, LieEndToEnd, List, Membership, Past, PgId, PrimaryFacts, Some, Span, [], along, ap, ap₂, are_checked, arith, cases_Bool, cases_lt, clean_spans, contains-any, contains-filter, contains-map, contains-push, current_span, current_state, ends_at, enough_of, filter, filter-contains, front-checked, get_or-range_with_len, get_or_append_left, get_or_default, get_or_push, group_history, history-grows, incs, inl, inr, is_by_place, is_within, last-checked, last_place, length-range_with_len, length_push, les, lie_end_to_end, list_any, list_any-append, map, map-contains, map_some, members_at-last_place, membership, nat_le, nat_tests, not, numbered, opening_of, opening_of-le, opening_of-opens, opening_of-stays, opens_at, or-true, past_ending, past_ends, past_intervals, past_of, past_spans, primary_facts, range_with_len, refl, span_of, state_at, stepped, subst, suc, sym, then_with, true, wants_clean, zero, ℕ, ◌&&◌, ◌++◌, ◌+◌, ◌<◌, ◌||◌, ◌∙◌, ◌∷◌, ◌≡◌, ◌≤◌, ◌⊎◌}
+use Rattle.pgp_compact.proofs.Common.{AnyCode, Bool, Contains, GroupLog, HasReached, History, Incremental, LieApart, LieEndToEnd, List, Membership, Past, PgId, PrimaryFacts, Some, Span, [], along, ap, ap₂, are_checked, arith, cases_Bool, cases_lt, clean_spans, contains-any, contains-filter, contains-map, contains-push, current_span, current_state, ends_at, enough_of, filter, filter-contains, front-checked, get_or-range_with_len, get_or_append_left, get_or_default, get_or_push, group_history, history-grows, incs, inl, inr, is_by_place, is_within, last-checked, last_place, length-range_with_len, length_push, les, lie_end_to_end, list_any, list_any-append, map, map-contains, map_some, members_at-last_place, membership, nat_le, nat_tests, not, numbered, opening_of, opening_of-le, opening_of-opens, opening_of-stays, opens_at, or-true, past_ending, past_ends, past_intervals, past_of, past_spans, primary_facts, range_with_len, refl, span_of, state_at, stepped, subst, suc, sym, then_with, true, wants_clean, zero, ℕ, ◌&&◌, ◌++◌, ◌+◌, ◌<◌, ◌||◌, ◌∙◌, ◌∷◌, ◌≡◌, ◌≤◌, ◌⊎◌, range-contains}
 use Rattle.pgp_compact.proofs.SpanLemmas.{apart-lower}
 
 -- ---- a history that goes on
@@ -95,9 +95,6 @@ pub record WasAmong (g : GroupLog) (after : History AnyCode) (last : ℕ) : Type
 wanted-before : (can recorded : Bool) (less more last : ℕ) → less ≤ more → (can && (not recorded || nat_le more last)) ≡ true → (can && (not recorded || nat_le less last)) ≡ true
 wanted-before can recorded less more last rises wants = grind (arith, nat_tests)
 
-in-range : (n k : ℕ) → k < n → Contains (range_with_len 0 n) k
-in-range n k below = (k, omega (arith, length-range_with_len 0 n), omega (arith, get_or-range_with_len 0 n k k below))
-
 -- an interval that was over
 was-past : (g : GroupLog) (after : History AnyCode) → GoesOn g.history after → (later : ℕ) → les g ≤ later → (last : ℕ) → ends_at after last ≡ true
     → wants_clean after.code later (past_ending enough_of is_by_place [] after last) ≡ true → last < last_place g.history → WasAmong g after last
@@ -109,7 +106,7 @@ was-past g after on later rises last ends wants over =
     λ i. past_of (enough_of (on.code i)) (is_by_place (on.code i)) [] (on.first i + opens i) (on.first i + last) (on.states last over i) in
     let then' : wants_clean h.code later p ≡ true = ap₂ (λ (code : AnyCode) (q : Past). wants_clean code later q) (sym on.code) (sym same) ∙ wants in
     let wanted : wants_clean h.code (les g) p ≡ true = wanted-before _ _ (les g) later p.last rises then' in
-    let ended = contains-filter (ends_at h) (range_with_len 0 (last_place h)) last (in-range (last_place h) last over) (sym (on.opens (suc last) (omega (arith, over))) ∙ ends) in
+    let ended = contains-filter (ends_at h) (range_with_len 0 (last_place h)) last (range-contains (last_place h) last over) (sym (on.opens (suc last) (omega (arith, over))) ∙ ends) in
     let listed = contains-map (past_ending enough_of is_by_place [] h) (past_ends h) last ended in
     let kept = contains-map span_of _ p (contains-filter (wants_clean h.code (les g)) (past_intervals enough_of is_by_place [] h) p listed wanted) in
     record {

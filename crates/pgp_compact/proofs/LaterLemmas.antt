@@ -1,5 +1,5 @@
 -- What is kept of later reports says which earlier ones they make needless.
-use Rattle.pgp_compact.proofs.Common.{Bool, Entry, GroupLog, HashMap, Info, IsGreatestOf, List, LogEntry, None, Number, Opening, Option, PgId, Report, Some, Span, [], any-same, ap, ap₂, arith, cases_Bool, clean_in, clean_spans, epoch, false, filter, find, flat_map, get_or, group_history, group_in, group_with, has_number, incs_of, infos, infos_in, infos_of, is_clean_from, is_same_group, is_same_member, is_same_number, is_same_opening, is_same_sender, is_within, length, les, list_any, list_any-append, map, map_more, map_some, nat_eq, nat_le, nat_tests, not, number_of, numbers, opening_at, opening_in, option_and_then, option_map, option_map_or, reaches, refl, replaces, replaces_number, same_group, sender_of, sent, started, starts_as_late, sym, take, tells_last_clean, tells_last_of, true, within, written, ℕ, ◌&&◌, ◌++◌, ◌+◌, ◌<◌, ◌∙◌, ◌∷◌, ◌≡◌}
+use Rattle.pgp_compact.proofs.Common.{Bool, Entry, GroupLog, HashMap, Info, IsGreatestOf, List, LogEntry, None, Number, Opening, Option, PgId, Report, Some, Span, [], any-same, ap, ap₂, arith, cases_Bool, clean_in, clean_spans, epoch, false, filter, find, flat_map, get_or, group_history, group_in, group_with, has_number, incs_of, infos, infos_in, infos_of, is_clean_from, is_same_group, is_same_member, is_same_number, is_same_opening, is_same_sender, is_within, length, les, list_any, list_any-append, map, map_more, map_some, nat_eq, nat_le, nat_tests, not, number_of, numbers, opening_at, opening_in, option_and_then, option_map, option_map_or, reaches, refl, replaces, replaces_number, same_group, sender_of, sent, started, starts_as_late, sym, take, tells_last_clean, tells_last_of, true, within, written, ℕ, ◌&&◌, ◌++◌, ◌+◌, ◌<◌, ◌∙◌, ◌∷◌, ◌≡◌, map_none}
 use Rattle.pgp_compact.proofs.IntervalLemmas.{spans-apart}
 use Rattle.pgp_compact.proofs.SpanLemmas.{any-holds, same-opening}
 
@@ -58,13 +58,9 @@ tells-clean g later info =
     (λ span. both (is_within info.last_epoch_clean span) (not (list_any (is_clean_from span (info.last_epoch_clean + 1)) (infos g))) (not (list_any (is_clean_from span info.last_epoch_clean) later)))
     ∙ any-holds g.history.first info.last_epoch_clean test (clean_spans g) (spans-apart g.history (les g))
 
-unmapped : {X Y : Type 0} (f : X → Y) (o : Option X) → option_map f o ≡ None → o ≡ None
-unmapped f None none = refl
-unmapped f (Some x) none = grind arith
-
 pub tells-none : (g : GroupLog) (later : List Info) (info : Info) → opening_in g info.last_epoch_clean ≡ None → tells_last_clean g later info ≡ false
 tells-none g later info none =
-    let found : find (is_within info.last_epoch_clean) (clean_spans g) ≡ None = unmapped (λ (s : Span). s.first) _ none in
+    let found : find (is_within info.last_epoch_clean) (clean_spans g) ≡ None = map_none (λ (s : Span). s.first) _ none in
     tells-clean g later info ∙ ap (λ (o : Option Span). option_map_or
     (λ span. not (list_any (is_clean_from span (info.last_epoch_clean + 1)) (infos g)) && not (list_any (is_clean_from span info.last_epoch_clean) later)) o false) found
 

@@ -1,12 +1,12 @@
 -- A placement stays where fewer devices are in, and each that it has is in still.
-use Rattle.std.proofs.Common.{◌≡◌, ◌<◌, ℕ, ◌+◌, zero, suc, zero-add, ℤ, List, [], ◌∷◌, map, Bool, true, false, not, ◌&&◌, inl, inr, refl, arith, ap, sym, ◌∙◌, subst, Option, Some, None, if◌then◌else◌}
+use Rattle.std.proofs.Common.{◌≡◌, ◌<◌, ℕ, ◌+◌, zero, suc, ℤ, List, [], ◌∷◌, map, Bool, true, false, not, ◌&&◌, inl, inr, refl, arith, ap, sym, ◌∙◌, subst, Option, Some, None, if◌then◌else◌}
 use Rattle.std.specs.List.{Contains, list_any, range_with_len}
 use Rattle.std.specs.Option.{option_and_then, option_map_or}
 use Rattle.std.proofs.lemmas.Bool.{cases_Bool, cases_lt, true≢false}
 use Rattle.std.proofs.lemmas.List.{get_or_past}
-use Rattle.std.proofs.lemmas.List.FromFn.{get_or-range_with_len, length-range_with_len}
 use Rattle.std.proofs.lemmas.Option.{none-some}
 use Rattle.pgp_lists.proofs.Members.{Contains-here, contains-append, contains-map}
+use Rattle.pgp_lists.proofs.Ranges.{range-contains}
 use Rattle.pgp_crush.specs.declared.rule.Rule.{Rule}
 use Rattle.pgp_crush.specs.declared.descent.Descent.{Descent}
 use Rattle.pgp_crush.specs.declared.descent.Descent.TheVariants as descent_is
@@ -36,9 +36,6 @@ least_from-kept test other k (suc n) fails passes = elim (cases_Bool (test k)) [
   | inl here ↦ rw (here, passes k (rw here refl)) refl
   | inr on ↦ rw (on, fails k on) (least_from-kept test other (suc k) n fails (λ j is. passes j (rw on is)))
 ]
-
-range-has : (n q : ℕ) → q < n → Contains (range_with_len 0 n) q
-range-has n q below = (q, omega (arith, below, length-range_with_len 0 n), get_or-range_with_len 0 n q q below ∙ zero-add q)
 
 -- what a try comes to, where only devices that pass the test are in
 abbrev narrowed : (ℕ → Bool) → Candidate → Candidate
@@ -155,7 +152,7 @@ module _ (i : Input) (test : ℕ → Bool) (fewer : (osd : ℕ) → test osd ≡
     own-stays q own at =
         try-narrowed _ q
         ∙ still (cell i n own q) (λ pick c. holds pick.leaf
-        (subst (Contains (map (place_at i n table) (range_with_len 0 n))) (ap (option_and_then (λ round. leaf_in (cell i n round q))) at ∙ ap leaf_in c) (contains-map (place_at i n table) (range_with_len 0 n) q (range-has n q (within q own at))))
+        (subst (Contains (map (place_at i n table) (range_with_len 0 n))) (ap (option_and_then (λ round. leaf_in (cell i n round q))) at ∙ ap leaf_in c) (contains-map (place_at i n table) (range_with_len 0 n) q (range-contains n q (within q own at))))
         (try-in _ q pick c))
 
     before-stays : (position round : ℕ) (item : ℤ) (q : ℕ) → has_before few n table round position item q ≡ has_before i n table round position item q

@@ -74,11 +74,6 @@ flat_map-agree f g [] same = refl
 flat_map-agree f g (x ∷ xs) same =
     ap₂ (λ l r. l ++ r) (same x (Contains-here x xs)) (flat_map-agree f g xs (λ y there. same y (Contains-later x xs y there)))
 
-pub any-agree : {X : Type 0} (f g : X → Bool) (xs : List X) → ((x : X) → Contains xs x → f x ≡ g x) → list_any f xs ≡ list_any g xs
-any-agree f g [] same = refl
-any-agree f g (x ∷ xs) same =
-    ap₂ (λ a b. a || b) (same x (Contains-here x xs)) (any-agree f g xs (λ y there. same y (Contains-later x xs y there)))
-
 pub any-found : {X : Type 0} (test : X → Bool) (xs : List X) → list_any test xs ≡ is_some (find test xs)
 any-found test [] = refl
 any-found test (x ∷ xs) = grind (arith, any-found test xs)

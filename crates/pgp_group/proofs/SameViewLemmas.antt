@@ -3,7 +3,8 @@ use Rattle.pgp_group.proofs.Common.{◌≡◌, ℕ, arith, List, [], ◌++◌, O
 use Rattle.pgp_ids.specs.declared.verdict.Verdict.TheVariants as the
 use Rattle.pgp_prior.specs.Blocks as block
 use Rattle.pgp_group.specs.Peering.{info_of}
-use Rattle.pgp_group.proofs.Lists.{filter-agree, flat_map-agree, any-agree, filter_map-contains, index-contains, any-found}
+use Rattle.pgp_lists.proofs.Members.{any-agree}
+use Rattle.pgp_group.proofs.Lists.{filter-agree, flat_map-agree, filter_map-contains, index-contains, any-found}
 use Rattle.pgp_group.proofs.PeerLemmas.{compared}
 use Rattle.pgp_group.proofs.UntoldLemmas.{osd-there}
 use Rattle.pgp_group.proofs.PartLemmas.{present-is}

@@ -6,6 +6,7 @@ use Rattle.std.proofs.lemmas.List.FromFn.{length-range_with_len, get_or-range_wi
 use Rattle.std.proofs.Math.ListN.{get_or-eq_default}
 use Rattle.pgp_ids.specs.declared.history.EpochState.{EpochState}
 use Rattle.pgp_ids.specs.declared.past.Past.{Past}
+use Rattle.pgp_lists.proofs.Ranges.{range-contains}
 use Rattle.pgp_lists.proofs.Members.{All-members, map-contains, contains-map, filter-contains, contains-filter}
 use Rattle.pgp_interval.specs.History.{History, last_place, current_state, state_at, members_at}
 use Rattle.pgp_interval.specs.Runs.{ends_at, opens_at, opening_of, past_ending, past_ends, past_intervals}
@@ -68,9 +69,6 @@ range-below n k in' =
     let at : in'.0 < n = omega (arith, in'.1, length-range_with_len 0 n) in
     omega (arith, at, in'.2, get_or-range_with_len 0 n in'.0 k at)
 
-below-range : (n k : ℕ) → k < n → Contains (range_with_len 0 n) k
-below-range n k below = (k, omega (arith, length-range_with_len 0 n), omega (arith, get_or-range_with_len 0 n k k below))
-
 pub members_at-last_place : {C : Type 0} (h : History C) (place : ℕ) → place ≡ last_place h → members_at h place ≡ h.current
 members_at-last_place h place here =
     let at : state_at h place ≡ current_state h = get_or-eq_default h.lived (current_state h) (omega arith) in
@@ -96,7 +94,7 @@ module _ {C : Type 0} (enough : C → List ℕ → Bool) (by_place : C → Bool)
   pub HasEachOver-past_intervals : HasEachOver enough by_place cleans h (past_intervals enough by_place cleans h)
   HasEachOver-past_intervals first last run over =
       let ends : ends_at h last ≡ true = differ-ends h last (λ same. run.after over (sym same)) in
-      let there = contains-filter (ends_at h) (range_with_len 0 (last_place h)) last (below-range (last_place h) last over) ends in (
+      let there = contains-filter (ends_at h) (range_with_len 0 (last_place h)) last (range-contains (last_place h) last over) ends in (
         ending last,
         contains-map ending (past_ends h) last there,
         subst (λ a. TellsOf enough by_place cleans h (ending last) a last) (opening_of-interval h first last run) (TellsOf-past_ending last over ends),

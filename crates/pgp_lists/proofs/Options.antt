@@ -18,6 +18,10 @@ pub map_some : {X Y : Type 0} (f : X → Y) (found : Option X) (y : Y) → optio
 map_some f None y is = cc
 map_some f (Some x) y is = (x, refl, cc)
 
+pub map_none : {X Y : Type 0} (f : X → Y) (found : Option X) → option_map f found ≡ None → found ≡ None
+map_none f None is = refl
+map_none f (Some x) is = cc
+
 pub and_then_some : {X Y : Type 0} (found : Option X) (f : X → Option Y) (y : Y) → option_and_then f found ≡ Some y → (x : X) × (found ≡ Some x) × (f x ≡ Some y)
 and_then_some None f y is = cc
 and_then_some (Some x) f y is = (x, refl, is)

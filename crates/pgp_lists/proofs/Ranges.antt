@@ -1,8 +1,12 @@
--- Tests and filters over the numbers from one on.
+-- The numbers from one on, and tests and filters over them.
 use Rattle.std.proofs.Common.{◌≡◌, ℕ, zero, suc, ◌+◌, ◌<◌, List, [], ◌∷◌, ◌++◌, Bool, true, false, ◌&&◌, cond, filter, get_or, length, map, refl, ap, ◌∙◌, arith, add-one, append-nil}
-use Rattle.std.specs.List.{list_all, list_any, range_with_len}
+use Rattle.std.specs.List.{Contains, list_all, list_any, range_with_len}
 use Rattle.std.proofs.lemmas.List.{map_push}
 use Rattle.std.proofs.lemmas.List.Elements.{filter-append}
+use Rattle.std.proofs.lemmas.List.FromFn.{get_or-range_with_len, length-range_with_len}
+
+pub range-contains : (n k : ℕ) → k < n → Contains (range_with_len 0 n) k
+range-contains n k below = (k, omega (arith, length-range_with_len 0 n), omega (arith, get_or-range_with_len 0 n k k below))
 
 pub range_with_len-suc : (a n : ℕ) → range_with_len a (suc n) ≡ range_with_len a n ++ (a + n) ∷ []
 range_with_len-suc a zero = ap (λ x. x ∷ []) (omega arith)

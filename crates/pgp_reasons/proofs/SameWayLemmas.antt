@@ -3,7 +3,7 @@ use Rattle.std.proofs.Common.{◌≡◌, ℕ, List, [], ◌∷◌, Bool, true, f
 use Rattle.std.specs.List.{Contains, list_any}
 use Rattle.std.proofs.lemmas.Bool.{cases_Bool, eqb-true}
 use Rattle.pgp_code.specs.AnyCode.{enough_of, enough_of-mono, is_by_place}
-use Rattle.pgp_lists.proofs.Members.{Contains-nil, Contains-first, Contains-later, Contains-cases, any-contains, filter-agree, map-contains}
+use Rattle.pgp_lists.proofs.Members.{Contains-nil, Contains-first, Contains-later, Contains-cases, any-agree, any-contains, filter-agree, map-contains}
 use Rattle.pgp_map.specs.Devices.{exists, is_up, lost_at}
 use Rattle.pgp_prior.proofs.BetterLemmas.{Relieves, not_down-relieved, same-relieves}
 use Rattle.pgp_prior.proofs.PriorLemmas.{blocked_by-IsBlocking}
@@ -13,7 +13,6 @@ use Rattle.pgp_sets.specs.declared.status.Status.TheVariants.{Lost, Down}
 use Rattle.pgp_group.specs.GroupLog.{GroupLog, incs}
 use Rattle.pgp_group.specs.Heard.{les}
 use Rattle.pgp_group.specs.Peering.{past, prior}
-use Rattle.pgp_group.proofs.Lists.{any-agree}
 use Rattle.pgp_reasons.specs.declared.ways.Way.TheVariants.{Start, GiveUp}
 use Rattle.pgp_reasons.specs.GroupWays.{is_down_with, brings_back, ways}
 use Rattle.pgp_reasons.specs.Smallest.{each_but_one, all_sets, is_smallest, smallest, IsPartOf}

@@ -10,7 +10,7 @@ use Rattle.pgp_ids.specs.declared.incremental.DeviceEpoch.{DeviceEpoch}
 use Rattle.pgp_ids.specs.declared.incremental.Incremental.{Incremental}
 use Rattle.pgp_lists.proofs.Last.{last_where-found, last_where-some}
 use Rattle.pgp_lists.proofs.Lists.{any-mapped, any-same, flat_map-push, none-each}
-use Rattle.pgp_lists.proofs.Members.{Contains-nil, none-contains, map-contains, contains-append}
+use Rattle.pgp_lists.proofs.Members.{Contains-nil, any-agree, none-contains, map-contains, contains-append}
 use Rattle.pgp_lists.proofs.Options.{if_none, none_is, some_is}
 use Rattle.pgp_lists.proofs.Taken.{taken-induction}
 use Rattle.pgp_lists.specs.Last.{last_where}
@@ -30,7 +30,7 @@ use Rattle.pgp_group.specs.Reckoning.{TakesNothingAway}
 use Rattle.pgp_group.proofs.DeviceLemmas.{last_where-later}
 use Rattle.pgp_group.proofs.GrowthLemmas.{epoch-snoc, next_epoch}
 use Rattle.pgp_group.proofs.LaterLemmas.{histories}
-use Rattle.pgp_group.proofs.Lists.{any-agree, last_where-none}
+use Rattle.pgp_group.proofs.Lists.{last_where-none}
 use Rattle.pgp_group.proofs.OpeningLemmas.{opened}
 use Rattle.pgp_group.proofs.ReliefLemmas.{down_by, down-after, up-still, exists-still, up-booted}
 use Rattle.pgp_reasons.specs.declared.ways.Way.{Way}
