@@ -28,7 +28,7 @@ use super::standing::Standing;
 use pgp_code::{AnyCode, Recoverable};
 use pgp_ids::{Epoch, Incremental, Membership, PgId, PrimaryFacts};
 use pgp_interval::acting_slots;
-use pgp_log::{MapBefore, has_group};
+use pgp_log::MapBefore;
 use pgp_map::OsdMap;
 use std::alloc::{AllocError, Global};
 
@@ -152,7 +152,7 @@ impl Course {
         ensures pg { self.new.pg ≡ self.old.pg }
         ensures les { self.new.les ≡ self.old.les }
     {
-        if has_group(after, &self.pg) {
+        if after.has_group(&self.pg) {
             self.first = after.epoch();
             self.place = Some(GroupPlace::at(after, &self.pg));
         }

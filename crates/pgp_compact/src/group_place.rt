@@ -10,7 +10,7 @@ ghost use Rattle.pgp_log.specs.RawSets.{IsRawSet};
 ghost use Rattle.pgp_compact.specs.Course.{LiesAt, IsNext, lies_on, may_leave};
 
 use pgp_ids::{Incremental, Membership, OsdId, Osds, PgId};
-use pgp_log::{changes_temp, has_osd, moves, temp_of};
+use pgp_log::{changes_temp, has_osd, moves};
 use pgp_map::OsdMap;
 use pgp_sets::{filter, raw};
 
@@ -41,7 +41,7 @@ impl GroupPlace {
         let members = filter(map, pg, &raw);
         GroupPlace {
             raw,
-            temp: temp_of(map, *pg),
+            temp: map.copied_temp(*pg),
             members,
         }
     }

@@ -7,7 +7,6 @@ ghost use Rattle.pgp_core.specs.Added.{IsOutcome, IsOutcomeOf, added_by, taken_f
 use super::line::{LONGEST_LINE, all_blank};
 use super::log::Log;
 use pgp_ids::{AskRefusal, Entry, LocateRefusal, PgId, PoolId, TextFault};
-use pgp_log::has_group;
 use pgp_text::{Command, LineReader, LineRefusal};
 use std::alloc::{AllocError, Global};
 
@@ -83,7 +82,7 @@ fn entry_outcome(log: &mut Log, entry: Entry) -> Result<LineOutcome, AllocError>
 fn question_outcome(log: &Log, pg: PgId) -> LineOutcome
     ensures { IsOutcomeOf log.now (Ask pg) result }
 {
-    if has_group(log.map(), &pg) {
+    if log.map().has_group(&pg) {
         LineOutcome::Asked
     } else {
         LineOutcome::Refused(LineRefusal::Ask(AskRefusal::UnknownGroup))

@@ -1,5 +1,5 @@
 -- Sets of devices that may have more than was put in.
-use Rattle.pgp_log.proofs.Common.{nat_tests, ◌-◌, have_a_bit, may_meet, ◌&&◌, and_from, ◌≡◌, ℕ, ◌+◌, ◌*◌, ◌/◌, ◌%◌, ◌<◌, ◌≤◌, ◌^◌, Bool, true, not, nat_eq, min, List, length, take, get_or, bit_and, bit_or, w64, ap, sym, ◌∙◌, inl, inr, arith, list_any, cases_Bool, eqb-true, or_cases, take_all, list_any_more, Covers, CoversStill, OsdFilter}
+use Rattle.pgp_log.proofs.Common.{nat_tests, have_a_bit, may_meet, ◌&&◌, and_from, ◌≡◌, ℕ, ◌+◌, ◌*◌, ◌/◌, ◌%◌, ◌<◌, ◌≤◌, ◌^◌, Bool, true, not, nat_eq, min, List, length, take, get_or, bit_and, bit_or, w64, ap, sym, ◌∙◌, inl, inr, arith, list_any, cases_Bool, eqb-true, or_cases, take_all, list_any_more, Covers, CoversStill, OsdFilter}
 use Rattle.std.specs.Int.{bit_at}
 use Rattle.std.proofs.lemmas.Nat.Bits.{bit_at_and, bit_at_or, bit_at-lt, bit_at-zero, bit_at_set_same}
 

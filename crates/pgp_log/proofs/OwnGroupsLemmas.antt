@@ -1,5 +1,5 @@
 -- The groups of one owner, as the log grows.
-use Rattle.pgp_log.proofs.Common.{◌≡◌, ℕ, List, [], ◌∷◌, ◌++◌, Bor, Option, Some, None, is_some, option_map, Bool, true, false, not, ◌&&◌, ◌||◌, IfSome, ◌+◌, ◌<◌, length, set, take, get_or, nat_eq, nat_lt, eq-eqb, inl, inr, arith, refl, sym, ap, ◌∙◌, subst, list_any, option_copied, option_map_or, slice_get, with_item, and-true, and_from, and_parts, cases_Bool, cases_lt, eqb-true, false_from_ne_true, true_from_ne_false, true≢false, list_any_more, same_tests, none-at, Entry, Incremental, PgId, PoolSpec, View, checked-has_group, HasGroup, map_fault, then_with, IsMapOf, has_group, is_same_group, pool, OsdMap, unmade, scratch_there, inc_of, incs_of, makes, view_at, scratch, fits, AreGroupsOf, AreOwnGroupsOf, HasOwn, HasStill, IsKeptIfOwn, IsOwnIfKept, IsStepping, KeepsAll, keeps, marks_of, owns, IsKeptOf, IsRowOf, IsStep, IsViewOf, ids_of, epoch_of, is_legal, is_among, IsMapBefore, MapBefore, Groups, KeptGroup, Owner, Row, same_group}
+use Rattle.pgp_log.proofs.Common.{◌≡◌, ℕ, List, [], ◌∷◌, ◌++◌, Bor, Option, Some, None, is_some, option_map, Bool, true, false, not, ◌&&◌, ◌||◌, IfSome, ◌+◌, ◌<◌, length, take, get_or, nat_eq, nat_lt, eq-eqb, inl, inr, arith, refl, sym, ap, ◌∙◌, subst, list_any, option_copied, option_map_or, slice_get, with_item, and-true, and_from, and_parts, cases_Bool, cases_lt, eqb-true, false_from_ne_true, true_from_ne_false, true≢false, list_any_more, same_tests, none-at, Entry, Incremental, PgId, PoolSpec, View, checked-has_group, HasGroup, map_fault, then_with, IsMapOf, has_group, is_same_group, pool, OsdMap, unmade, scratch_there, inc_of, incs_of, makes, view_at, scratch, fits, AreGroupsOf, AreOwnGroupsOf, HasOwn, HasStill, IsKeptIfOwn, IsOwnIfKept, IsStepping, KeepsAll, keeps, marks_of, owns, IsKeptOf, IsRowOf, IsStep, IsViewOf, ids_of, epoch_of, is_legal, is_among, IsMapBefore, MapBefore, Groups, KeptGroup, Owner, Row, same_group}
 use Rattle.pgp_ids.specs.declared.entry.Entry.TheVariants as entry
 use Rattle.std.specs.HashMap as hash
 use Rattle.pgp_log.proofs.GroupsLemmas.{groups-anew, groups-on, ids-set, keeps-found}

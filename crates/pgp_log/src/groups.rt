@@ -23,7 +23,6 @@ ghost use Rattle.pgp_log.specs.declared.owner.Owner.{Owner as AnyOwner};
 use super::before::MapBefore;
 use super::kept_group::KeptGroup;
 use super::owner::Owner;
-use super::place::has_group;
 use super::row::{Changes, Row};
 use super::touch::{changes_nothing, moves_none};
 use pgp_ids::{Entry, Incremental, PgId, PoolId, View};
@@ -195,7 +194,7 @@ impl Groups {
         ensures marks { OnOk result ((other : Id) → nat_eq pg.pool other.pool ≡ false
             → is_among other (marks_of self.new) ≡ is_among other (marks_of self.old)) }
     {
-        if !owner.owns(&pg) || !has_group(&self.map, &pg) {
+        if !owner.owns(&pg) || !self.map.has_group(&pg) {
             return Ok(());
         }
         if self.places.contains_key(&pg) {

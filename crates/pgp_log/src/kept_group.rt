@@ -21,7 +21,6 @@ ghost use Rattle.pgp_log.specs.declared.before.MapBefore.{MapBefore as AnyBefore
 
 use super::before::MapBefore;
 use super::osd_filter::OsdFilter;
-use super::place::temp_of;
 use super::row::Row;
 use super::touch::{changes_placement, changes_pool, changes_temp};
 use pgp_group::Group;
@@ -63,7 +62,7 @@ impl KeptGroup {
             view: None,
             pg,
             raw,
-            temp: temp_of(after, pg),
+            temp: after.copied_temp(pg),
             group: Group::begin_members(alloc, after, pg, members),
         }
     }
@@ -164,7 +163,7 @@ impl KeptGroup {
         ensures group { self.new.group ≡ self.old.group }
         ensures pg { self.new.pg ≡ self.old.pg }
     {
-        self.temp = temp_of(after, self.pg);
+        self.temp = after.copied_temp(self.pg);
         if before.places_anew(after, inc, &self.pg, self.raw.as_slice()) {
             self.raw = raw(after, &self.pg);
         }

@@ -33,7 +33,7 @@ pub use entry::{inc_of, is_close};
 pub use judge::{Judge, LONGEST_LOG};
 pub use judged_log::JudgedLog;
 pub use pgp_sets::has_osd;
-pub use place::{ObjectPlace, group_of, has_group, temp_of};
+pub use place::{ObjectPlace, group_of};
 pub use raw_sets::RawSets;
 pub use report::{entries_fault, info_fault};
 pub use shard::{ShardState, shard_of};

@@ -1,16 +1,14 @@
 //! Where an object lies.
 
-ghost use Rattle.std.specs.Prelude.{◌≡◌, ◌<◌, List, Some, IfSome};
+ghost use Rattle.std.specs.Prelude.{◌≡◌, ◌<◌, Some, IfSome};
 ghost use Rattle.pgp_hash.specs.NameHash.{name_hash};
 ghost use Rattle.pgp_hash.specs.StableMod.{stable_mod};
 ghost use Rattle.pgp_map.specs.Held.{HasGroup};
-ghost use Rattle.pgp_ids.specs.declared.incremental.Incremental.{Incremental as AnyIncremental};
-ghost use Rattle.pgp_map.specs.MapOf.{IsMapOf, Says};
-ghost use Rattle.pgp_map.specs.Pools.{has_group, temp};
+ghost use Rattle.pgp_map.specs.MapOf.{Says};
 ghost use Rattle.pgp_log.specs.Locate.{group_of_object, IsCheckedMap};
 
 use pgp_hash::{mask_of, name_hash, stable_mod};
-use pgp_ids::{Membership, ObjectName, Osds, PgId, PoolId, PoolSpec};
+use pgp_ids::{Membership, ObjectName, PgId, PoolId, PoolSpec};
 use pgp_map::OsdMap;
 
 /// Where an object lies: its group, and where the map puts the group.
@@ -33,27 +31,6 @@ pub(crate) fn group_of_object(map: &OsdMap, id: PoolId, name: &ObjectName) -> Op
         pool: id,
         pg: group_of(name, &pool),
     })
-}
-
-/// Whether the map has the group.
-pub fn has_group(map: &OsdMap, pg: &PgId) -> bool
-    ensures { (incs : List AnyIncremental) → IsMapOf incs map.now → result ≡ has_group incs pg.now }
-{
-    match map.pool(pg.pool) {
-        Some(pool) => pg.pg < pool.pg_num,
-        None => false,
-    }
-}
-
-/// The group's pg_temp list by the map, as a copy, which takes no memory.
-pub fn temp_of(map: &OsdMap, pg: PgId) -> Osds
-    ensures { (incs : List AnyIncremental) → IsMapOf incs map.now → result ≡ temp incs pg }
-{
-    let mut copy = Osds::new();
-    for place in map.temp(pg) {
-        copy.push(*place);
-    }
-    copy
 }
 
 /// The group, of this pool, in which the object of this name lies.

@@ -5,7 +5,6 @@ ghost use Rattle.pgp_ids.specs.declared.incremental.Incremental.{Incremental as 
 ghost use Rattle.pgp_map.specs.MapOf.{IsMapOf};
 ghost use Rattle.pgp_log.specs.ReportFault.{is_slot_of, has_unknown_member, is_half, is_bad_version, are_bad_ends, is_zero, has_bad_info, has_bad_entries, report_fault, info_fault, entries_fault};
 
-use super::place::has_group;
 use pgp_ids::{Epoch, Info, LogEntry, Member, PgId, PoolSpec, Refusal, Report, Version};
 use pgp_map::OsdMap;
 
@@ -37,7 +36,7 @@ fn report_fault(
     ensures fault { (incs : List AnyIncremental) → IsMapOf incs map.now → result ≡ report_fault incs pg.now member.now stamp bad }
     ensures memory { result ≢ Some Refusal.Memory }
 {
-    if !has_group(map, pg) {
+    if !map.has_group(pg) {
         Some(Refusal::UnknownGroup)
     } else if has_unknown_member(map, pg, member) {
         Some(Refusal::UnknownMember)

@@ -7,7 +7,7 @@ ghost use Rattle.pgp_map.specs.Memory.{is_filled, MayLackMemory, may_grow};
 ghost use Rattle.pgp_map.specs.MapOf.{IsMapOf, Says};
 ghost use Rattle.pgp_map.specs.Held.{held_exists, held_up, held_lost_at, held_pool};
 ghost use Rattle.pgp_map.specs.Devices.{exists, is_up, up_from, down_at, up_thru, lost_at, weight, weights};
-ghost use Rattle.pgp_map.specs.Pools.{pool, temp};
+ghost use Rattle.pgp_map.specs.Pools.{has_group, pool, temp};
 ghost use Rattle.pgp_map.specs.Map.{epoch, tree};
 ghost use Rattle.pgp_map.specs.MapFault.{map_fault, given_fault, then_with, has_epoch_gap, has_unknown_device, has_lost_up, has_still_up, has_ahead, has_bad_pool, has_pool_known, has_bad_temp};
 ghost use Rattle.pgp_map.specs.Findings.{AreFindings};
@@ -277,12 +277,33 @@ impl OsdMap {
         self.pools.get(&id).copied()
     }
 
+    /// The pool is there, and has this group.
+    pub fn has_group(&self, pg: &PgId) -> bool
+        ensures { Says self.now (λ incs. result ≡ has_group incs pg.now) }
+    {
+        match self.pool(pg.pool) {
+            Some(pool) => pg.pg < pool.pg_num,
+            None => false,
+        }
+    }
+
     /// The group's pg_temp list; empty if it has none.
     pub fn temp(&self, pg: PgId) -> &[Place]
         ensures within { length result.now ≤ MAX_OSDS }
         ensures value { Says self.now (λ incs. result.now ≡ temp incs pg) }
     {
         temps::temp_at(&self.temps, pg)
+    }
+
+    /// The group's pg_temp list, as a copy, which takes no memory.
+    pub fn copied_temp(&self, pg: PgId) -> Osds
+        ensures { Says self.now (λ incs. result ≡ temp incs pg) }
+    {
+        let mut copy = Osds::new();
+        for place in self.temp(pg) {
+            copy.push(*place);
+        }
+        copy
     }
 
     /// The placement tree, if one was given.

@@ -14,7 +14,6 @@ use pgp_group::laws::growth::{
     checked_incrementals_are_numbered, history_begins_with_its_pool, the_next_map_follows,
 };
 use pgp_ids::{Entry, Epoch, Incremental, PgId, View};
-use pgp_log::has_group;
 use pgp_map::laws::{checked_lists_grow_by_incrementals_without_fault, pools_of_checked_lists};
 use pgp_map::{MapFault, OsdMap};
 use pgp_text::Reply;
@@ -67,7 +66,7 @@ impl GroupAlone {
             return Err(Fail::new("no such pool"));
         }
         let after = first_map(alloc, inc)?;
-        if !has_group(&after, &pg) {
+        if !after.has_group(&pg) {
             return Err(Fail::new("no such group"));
         }
         let before = first_map(alloc, inc)?;

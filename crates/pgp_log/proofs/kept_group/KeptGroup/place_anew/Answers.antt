@@ -13,8 +13,8 @@ returns-else-places_anew-clause-raw c = λ log is step.
 
 pub returns-then-places_anew-clause-temp : goal.returns-then-places_anew-clause-temp
 returns-then-places_anew-clause-temp c = λ log step.
-    temp-anew log c.args.inc.now c.args.before.now c.args.after.now c.args.self.now.pg _ step c.temp_of-self.ensures
+    temp-anew log c.args.inc.now c.args.before.now c.args.after.now c.args.self.now.pg _ step c.copied_temp-self.ensures
 
 pub returns-else-places_anew-clause-temp : goal.returns-else-places_anew-clause-temp
 returns-else-places_anew-clause-temp c = λ log step.
-    temp-anew log c.args.inc.now c.args.before.now c.args.after.now c.args.self.now.pg _ step c.temp_of-self.ensures
+    temp-anew log c.args.inc.now c.args.before.now c.args.after.now c.args.self.now.pg _ step c.copied_temp-self.ensures
