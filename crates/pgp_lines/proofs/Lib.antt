@@ -6,3 +6,4 @@ pub mod Walks
 pub mod Keys
 pub mod BucketLemmas
 pub mod Sized
+pub mod FormatLemmas

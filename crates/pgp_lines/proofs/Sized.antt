@@ -134,9 +134,9 @@ name_ok d =
 
 -- ---- the lines
 
-trace_ok : (format : Option Format) (d : Data) → IfOk (trace_of format d) IsInRange
-trace_ok format d =
-    required_then IsInRange IsTraceCode (codes "code") (code_in (read_in format)) d _ (code_ok (read_in format))
+trace_ok : (last : Format) (format : Option Format) (d : Data) → IfOk (trace_of last format d) IsInRange
+trace_ok last format d =
+    required_then IsInRange IsTraceCode (codes "code") (code_in (read_in last format)) d _ (code_ok (read_in last format))
     (λ code of_code. required_then IsInRange (λ epochs. IsWithin 1 4096 (length epochs)) (codes "epochs") (epochs_in (is_by_place code)) d _ (list_sized 1 4096 _)
     (λ epochs sized. past IsInRange (judged format) _ (λ known. (of_code, sized.0, sized.1))))
 
@@ -179,22 +179,23 @@ locate_ok format d =
     (λ name sized. required_then IsPlace (IsWithin 1 255) (codes "pool") pool_id_in d _ (number_within 1 255)
     (λ pool ranged. past IsPlace (judged format) _ (λ known. (ranged.0, ranged.1, sized.0, sized.1))))
 
-values_ok : (named : Op) (format : Option Format) (d : Data) → IfOk (values_of named format d) IsInRange
-values_ok op.Ask format d = from_ok IsInRange IsGroup (ask_of format d) _ (ask_ok format d) (λ pg ok. ok)
-values_ok op.Close format d = past IsInRange (judged format) _ (λ known. tt)
-values_ok op.Entries format d = from_ok IsInRange IsReport (entries_of format d) _ (entries_ok format d) (λ report ok. ok)
-values_ok op.Inc format d = past IsInRange (inc_of format d) _ (λ inc. tt)
-values_ok op.Info format d = from_ok IsInRange IsInfo (info_of format d) _ (info_ok format d) (λ info ok. ok)
-values_ok op.Locate format d = from_ok IsInRange IsPlace (locate_of format d) _ (locate_ok format d) (λ object ok. ok)
-values_ok op.Trace format d = trace_ok format d
+values_ok : (named : Op) (last : Format) (format : Option Format) (d : Data) → IfOk (values_of named last format d) IsInRange
+values_ok op.Ask last format d = from_ok IsInRange IsGroup (ask_of format d) _ (ask_ok format d) (λ pg ok. ok)
+values_ok op.Close last format d = past IsInRange (judged format) _ (λ known. tt)
+values_ok op.Entries last format d = from_ok IsInRange IsReport (entries_of format d) _ (entries_ok format d) (λ report ok. ok)
+values_ok op.Inc last format d = past IsInRange (inc_of last format d) _ (λ inc. tt)
+values_ok op.Info last format d = from_ok IsInRange IsInfo (info_of format d) _ (info_ok format d) (λ info ok. ok)
+values_ok op.Locate last format d = from_ok IsInRange IsPlace (locate_of format d) _ (locate_ok format d) (λ object ok. ok)
+values_ok op.Trace last format d = trace_ok last format d
 
 known_ok : (key : Option (List ℕ)) (read : Result Command LineFault) → IfOk read IsInRange → IfOk (known key read) IsInRange
 known_ok (Some key) read ok = tt
 known_ok None read ok = ok
 
 -- a command of a line is in range
-pub in_range : (d : Data) (command : Command) → command_in d ≡ Ok command → IsInRange command
-in_range d command is =
-    let ranged : IfOk (command_in d) IsInRange =
-    past IsInRange (ok_or (op_in d) no_op) _ (λ named. known_ok (unknown_key_in (op_keys named) d) (values_of named (format_of d) d) (values_ok named (format_of d) d)) in
+pub in_range : (last : Format) (d : Data) (command : Command) → command_in last d ≡ Ok command → IsInRange command
+in_range last d command is =
+    let read : Op → Result Command LineFault = λ named. values_of named last (format_of last d) d in
+    let ranged : IfOk (command_in last d) IsInRange =
+    past IsInRange (ok_or (op_in d) no_op) _ (λ named. known_ok (unknown_key_in (op_keys named) d) (read named) (values_ok named last (format_of last d) d)) in
     rw is at ranged

@@ -22,7 +22,9 @@ bucket_item_in d = integer_in (negsuc 65535) (pos 65535) d
 -- how a bucket of this name chooses
 abbrev pub alg_named : List ℕ → Option BucketAlg
 alg_named name =
-    if bytes_eq name (codes "uniform") then Some Uniform else (if bytes_eq name (codes "list") then Some Weighed else None)
+    if bytes_eq name (codes "uniform") then Some Uniform
+    else (if bytes_eq name (codes "list") then Some Weighed
+    else (if bytes_eq name (codes "straw2") then Some Straw2 else None))
 
 abbrev pub alg_in : Data → Option BucketAlg
 alg_in d = option_and_then alg_named (as_str d)
@@ -31,7 +33,7 @@ alg_in d = option_and_then alg_named (as_str d)
 abbrev pub bucket_keys : BucketAlg → List (List ℕ)
 bucket_keys Uniform = codes "alg" ∷ codes "id" ∷ codes "items" ∷ codes "type" ∷ []
 bucket_keys Weighed = codes "alg" ∷ codes "id" ∷ codes "items" ∷ codes "type" ∷ codes "weights" ∷ []
-bucket_keys Straw2 = bucket_keys Weighed
+bucket_keys Straw2 = codes "alg" ∷ codes "id" ∷ codes "items" ∷ codes "type" ∷ codes "weights" ∷ []
 
 -- the weights, of which a uniform bucket has none
 abbrev pub weights_in : BucketAlg → Data → Option (List ℕ)
@@ -53,7 +55,7 @@ head_in d = do
   kind ← field (codes "type") byte_in d
   Some (record { alg = alg; id = id; kind = kind })
 
--- a bucket's object: its head and its lists; a list bucket has as many weights as items
+-- a bucket's object: its head and its lists; it has as many weights as items, or none
 abbrev pub bucket_in : Data → Option BucketSpec
 bucket_in d = do
   head ← head_in d

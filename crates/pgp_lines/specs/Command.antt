@@ -26,34 +26,34 @@ use Rattle.pgp_lines.specs.declared.command.op.Op.{Op}
 use Rattle.pgp_lines.specs.declared.command.op.Op.TheVariants as op
 
 -- the line of a trace, which names this version: its keys are judged in ascending byte order, so the least bad one is named
-abbrev pub trace_of : Option Format → Data → Result Command LineFault
-trace_of format d = do
-  code ← required (codes "code") (code_in (read_in format)) d
+abbrev pub trace_of : Format → Option Format → Data → Result Command LineFault
+trace_of last format d = do
+  code ← required (codes "code") (code_in (read_in last format)) d
   epochs ← required (codes "epochs") (epochs_in (is_by_place code)) d
   known ← judged format
   Ok (Trace code epochs)
 
 -- the line of this operation, past the judgement of its keys; `format` is the version that it names, None where its `v` is bad
-abbrev pub values_of : Op → Option Format → Data → Result Command LineFault
-values_of op.Ask format d = do
+abbrev pub values_of : Op → Format → Option Format → Data → Result Command LineFault
+values_of op.Ask last format d = do
   pg ← ask_of format d
   Ok (Ask pg)
-values_of op.Close format d = do
+values_of op.Close last format d = do
   known ← judged format
   Ok (Submit Close)
-values_of op.Entries format d = do
+values_of op.Entries last format d = do
   report ← entries_of format d
   Ok (Submit (Entries report))
-values_of op.Inc format d = do
-  inc ← inc_of format d
+values_of op.Inc last format d = do
+  inc ← inc_of last format d
   Ok (Submit (Inc inc))
-values_of op.Info format d = do
+values_of op.Info last format d = do
   info ← info_of format d
   Ok (Submit (Info info))
-values_of op.Locate format d = do
+values_of op.Locate last format d = do
   object ← locate_of format d
   Ok (Locate object.0 object.1)
-values_of op.Trace format d = trace_of format d
+values_of op.Trace last format d = trace_of last format d
 
 -- an unknown key is told before a bad value
 abbrev pub known : {A : Type 0} → Option (List ℕ) → Result A LineFault → Result A LineFault
@@ -61,20 +61,20 @@ known (Some key) read = Err (unknown_key key)
 known None read = read
 
 -- the command that a value is: an object whose `op` names an operation
-abbrev pub command_in : Data → Result Command LineFault
-command_in d = do
+abbrev pub command_in : Format → Data → Result Command LineFault
+command_in last d = do
   named ← ok_or (op_in d) no_op
-  known (unknown_key_in (op_keys named) d) (values_of named (format_of d) d)
+  known (unknown_key_in (op_keys named) d) (values_of named last (format_of last d) d)
 
 -- the value of a text, where the bytes are one
 abbrev pub data_of : List ℕ → Option Data
 data_of bytes = if is_utf8 bytes then read bytes else None
 
--- the command that a line is, by its bytes without the line feed
-abbrev pub command_of : List ℕ → Result Command LineFault
-command_of bytes = do
+-- the command that a line is, by its bytes without the line feed, where lines up to this version are read
+abbrev pub command_of : Format → List ℕ → Result Command LineFault
+command_of last bytes = do
   d ← ok_or (data_of bytes) not_json
-  command_in d
+  command_in last d
 
 -- a pool's kind as a trace can give it
 abbrev pub IsTraceCode : PoolKind → Type 0

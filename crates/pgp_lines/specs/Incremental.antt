@@ -4,10 +4,10 @@ use Rattle.serde_json.specs.Data.{Data}
 use Rattle.pgp_ids.specs.declared.incremental.Incremental.{Incremental}
 use Rattle.pgp_lines.specs.LineFault.{LineFault, ◌>>=◌}
 use Rattle.pgp_lines.specs.Shapes.{list_of, required, optional}
-use Rattle.pgp_lines.specs.Format.{read_in, judged}
+use Rattle.pgp_lines.specs.Format.{read_in, judged, judged_at, has_pools, has_tree}
 use Rattle.pgp_lines.specs.Ids.{osd_in, word_in}
 use Rattle.pgp_lines.specs.Devices.{device_weight_in, device_epoch_in}
-use Rattle.pgp_lines.specs.Pools.{pools_in, pool_sizes_in, temp_in}
+use Rattle.pgp_lines.specs.Pools.{pool_in, pool_sizes_in, temp_in}
 use Rattle.pgp_lines.specs.Buckets.{tree_in}
 use Rattle.pgp_lines.specs.declared.command.format.Format.{Format}
 
@@ -31,10 +31,11 @@ no_change = record {
 abbrev pub list_at : {A : Type 0} → List ℕ → (Data → Option A) → List A → Data → Result (List A) LineFault
 list_at key shape absent d = optional key (list_of shape) absent d
 
--- with the tree, the epoch and the devices that go
-abbrev pub with_down : Incremental → Data → Result Incremental LineFault
-with_down inc d = do
+-- with the tree, the epoch and the devices that go, in a line of this version
+abbrev pub with_down : Format → Incremental → Data → Result Incremental LineFault
+with_down format inc d = do
   crush ← optional (codes "crush") tree_in inc.crush d
+  known ← judged_at (codes "crush") (has_tree format crush)
   down ← list_at (codes "down") osd_in inc.down d
   epoch ← required (codes "epoch") word_in d
   gone ← list_at (codes "gone") osd_in inc.gone d
@@ -44,7 +45,8 @@ with_down inc d = do
 -- with pools and groups, in a line of this version
 abbrev pub with_pools : Format → Incremental → Data → Result Incremental LineFault
 with_pools format inc d = do
-  pools ← optional (codes "pools") (pools_in format) inc.pools d
+  pools ← list_at (codes "pools") pool_in inc.pools d
+  known ← judged_at (codes "pools") (has_pools format pools)
   sizes ← list_at (codes "sizes") pool_sizes_in inc.sizes d
   temp ← list_at (codes "temp") temp_in inc.temp d
   Ok (record inc { pools = pools; sizes = sizes; temp = temp })
@@ -59,12 +61,12 @@ with_up format inc d = do
   Ok (record inc { up = up; up_thru = up_thru; weight = weight })
 
 -- with all parts of a line
-abbrev pub with_parts : Option Format → Incremental → Data → Result Incremental LineFault
-with_parts format inc d = do
-  down ← with_down inc d
-  pools ← with_pools (read_in format) down d
+abbrev pub with_parts : Format → Option Format → Incremental → Data → Result Incremental LineFault
+with_parts last format inc d = do
+  down ← with_down (read_in last format) inc d
+  pools ← with_pools (read_in last format) down d
   with_up format pools d
 
 -- the line of an incremental, which names this version: its keys are judged in ascending byte order, so the least bad one is named
-abbrev pub inc_of : Option Format → Data → Result Incremental LineFault
-inc_of format d = with_parts format no_change d
+abbrev pub inc_of : Format → Option Format → Data → Result Incremental LineFault
+inc_of last format d = with_parts last format no_change d

@@ -1,4 +1,4 @@
--- Buckets whose parts go together: the id is one of a bucket, and a list bucket has a weight for each item.
+-- Buckets whose parts go together: the id is one of a bucket, and it has a weight for each item, or none in a uniform bucket.
 use Rattle.std.specs.Prelude.{◌≡◌, ℕ, ℤ, pos, negsuc, ◌≤ℤ◌, ◌<ℤ◌, List, length, Bool, true, false, ◌&&◌, nat_eq, int_le, int_lt, Option, Some, None, refl}
 use Rattle.std.proofs.Common.{arith}
 use Rattle.std.proofs.lemmas.Bool.Decides.{nat_tests}
@@ -11,7 +11,7 @@ use Rattle.pgp_ids.specs.declared.bucket.BucketSpec.{BucketSpec}
 abbrev pub is_bucket_id : ℤ → Bool
 is_bucket_id id = int_le (negsuc 65535) id && int_lt id (pos 0)
 
--- a list bucket has a weight for each item, any other bucket none
+-- it has a weight for each item, or none in a uniform bucket
 abbrev pub is_weighed : BucketAlg → List ℤ → List ℕ → Bool
 is_weighed alg items weights = nat_eq (length weights) (weight_count alg (length items))
 

@@ -1,6 +1,5 @@
 -- What a map incremental says of pools and groups: pool objects, [pool, size, min_size] and [pool, pg, list].
 use Rattle.std.specs.Prelude.{ℕ, true, List, [], ◌∷◌, codes, Option, Some, None, option_map, option_and_then, if◌then◌else◌}
-use Rattle.std.specs.List.{list_all}
 use Rattle.std.specs.Str.{bytes_eq}
 use Rattle.serde_json.specs.Data.{Data}
 use Rattle.serde_json.specs.Find.{as_str}
@@ -10,8 +9,6 @@ use Rattle.pgp_ids.specs.declared.pool.PoolKind.TheVariants.{Replicated, Erasure
 use Rattle.pgp_ids.specs.declared.pool.PoolSizes.{PoolSizes}
 use Rattle.pgp_ids.specs.declared.pool.PoolSpec.{PoolSpec}
 use Rattle.pgp_lines.specs.Shapes.{number_in, triple_in, list_of, has_only, field, ◌>>=◌}
-use Rattle.pgp_lines.specs.declared.command.format.Format.{Format}
-use Rattle.pgp_lines.specs.Format.{has_kind}
 use Rattle.pgp_lines.specs.Groups.{groups_in}
 use Rattle.pgp_lines.specs.Ids.{place_in, pool_id_in, byte_in, group_in}
 
@@ -51,11 +48,6 @@ pool_of_kind d kind = if has_only (pool_keys kind) d then pool_fields_in kind d 
 -- a pool's object: the fields of its kind, and no other
 abbrev pub pool_in : Data → Option PoolSpec
 pool_in d = option_and_then (pool_of_kind d) (pool_kind_in d)
-
--- a list of pools, each of a kind that a line of this version can have
-abbrev pub pools_in : Format → Data → Option (List PoolSpec)
-pools_in format d =
-    option_and_then (λ pools. if list_all (λ pool. has_kind format pool.kind) pools then Some pools else None) (list_of pool_in d)
 
 -- [pool, size, min_size]
 abbrev pub pool_sizes_in : Data → Option PoolSizes

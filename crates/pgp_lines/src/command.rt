@@ -29,6 +29,7 @@ mod value;
 
 use bumpalo::Bump;
 use faults::unknown_key_fault;
+pub use format::Format;
 use format::read_format;
 use json::{Error, Scratch, Tape};
 use objects::unknown_key;
@@ -61,23 +62,25 @@ pub enum Command {
     },
 }
 
-/// Reads a line, without its line feed, as one JSON text.
+/// Reads a line of version 1 or 2, without its line feed, as one JSON text.
 ///
 /// Of several faults the first in the order of [`TextFault`] is told. A text of more than 4,294,967,040 bytes, which no
 /// tape holds, is refused as `Memory`; no other length is judged. `Memory` may come in place of any other answer too, except
 /// for bytes that are no UTF-8.
 pub fn read_line(alloc: Global, line: &[u8]) -> Result<Command, TextFault>
-    ensures ok { IfOk result (λ command. command_of line.now ≡ Ok command) }
-    ensures err { IfErr result (λ fault. IfSome (line_fault_of fault) (λ f. command_of line.now ≡ Err f)) }
+    ensures ok { IfOk result (λ command. command_of Format.Two line.now ≡ Ok command) }
+    ensures err { IfErr result (λ fault. IfSome (line_fault_of fault) (λ f. command_of Format.Two line.now ≡ Err f)) }
     // Bytes that are no text are found out without memory.
     ensures memory { result ≡ Err TextFault.Memory → is_utf8 line.now ≡ true }
     ensures in_range { IfOk result IsInRange }
 {
-    LineReader::new(alloc).read(alloc, line)
+    LineReader::new(alloc, Format::Two).read(alloc, line)
 }
 
 /// Reads lines one after the other, with room that it keeps from line to line. What is kept follows the longest line so far.
 pub struct LineReader {
+    /// Up to which version it reads lines.
+    pub format: Format,
     room: Scratch,
     /// Where the tokens of one line lie; empty between lines.
     arena: Bump,
@@ -85,48 +88,57 @@ pub struct LineReader {
 
 impl Drop for LineReader {
     fn drop(self) {
-        let LineReader { room: _, arena: _ } = self;
+        let LineReader {
+            format: _,
+            room: _,
+            arena: _,
+        } = self;
     }
 }
 
 impl LineReader {
-    /// A reader of lines. It takes no memory before its first line.
-    pub fn new(alloc: Global) -> LineReader {
+    /// A reader of lines up to this version. It takes no memory before its first line.
+    pub fn new(alloc: Global, format: Format) -> LineReader
+        ensures { result.format ≡ format }
+    {
         LineReader {
+            format,
             room: Scratch::new(alloc),
             arena: Bump::new(alloc),
         }
     }
 
-    /// Reads a line as [`read_line`] does.
+    /// Reads a line as [`read_line`] does, of a version up to the reader's.
     pub fn read(&mut self, alloc: Global, line: &[u8]) -> Result<Command, TextFault>
-        ensures ok { IfOk result (λ command. command_of line.now ≡ Ok command) }
+        ensures ok { IfOk result (λ command. command_of self.old.format line.now ≡ Ok command) }
         ensures err { IfErr result
-            (λ fault. IfSome (line_fault_of fault) (λ f. command_of line.now ≡ Err f)) }
+            (λ fault. IfSome (line_fault_of fault) (λ f. command_of self.old.format line.now ≡ Err f)) }
         ensures memory { result ≡ Err TextFault.Memory → is_utf8 line.now ≡ true }
         ensures in_range { IfOk result IsInRange }
+        ensures kept { self.new.format ≡ self.old.format }
     {
-        let command = read_within(alloc, &self.arena, line, &mut self.room);
+        let command = read_within(alloc, &self.arena, line, self.format, &mut self.room);
         // Refused only while a block of the arena is out, and the line's tokens have been given back.
         let _ = self.arena.reset();
         command
     }
 }
 
-/// Reads a line whose tokens lie in the arena.
+/// Reads a line up to this version whose tokens lie in the arena.
 fn read_within<'a>(
     alloc: Global,
     arena: &'a Bump,
     line: &'a [u8],
+    last: Format,
     room: &'a mut Scratch,
 ) -> Result<Command, TextFault>
-    ensures ok { IfOk result (λ command. command_of line.now ≡ Ok command) }
-    ensures err { IfErr result (λ fault. IfSome (line_fault_of fault) (λ f. command_of line.now ≡ Err f)) }
+    ensures ok { IfOk result (λ command. command_of last line.now ≡ Ok command) }
+    ensures err { IfErr result (λ fault. IfSome (line_fault_of fault) (λ f. command_of last line.now ≡ Err f)) }
     ensures memory { result ≡ Err TextFault.Memory → is_utf8 line.now ≡ true }
     ensures in_range { IfOk result IsInRange }
 {
     let tokens = read_json(arena, line, room)?;
-    read_command(alloc, &Value::of(&tokens))
+    read_command(alloc, &Value::of(&tokens), last)
 }
 
 /// The tokens of a JSON text (RFC 8259, nested at most 127 deep), or `NotJson`.
@@ -171,10 +183,10 @@ fn read_text<'a>(
 }
 
 /// The command of an object. The operation is judged first, then the keys, then their values.
-fn read_command(alloc: Global, value: &Value<'_, '_>) -> Result<Command, TextFault>
-    ensures ok { IfOk result (λ command. command_in (view value.now) ≡ Ok command) }
+fn read_command(alloc: Global, value: &Value<'_, '_>, last: Format) -> Result<Command, TextFault>
+    ensures ok { IfOk result (λ command. command_in last (view value.now) ≡ Ok command) }
     ensures err { IfErr result
-        (λ fault. IfSome (line_fault_of fault) (λ f. command_in (view value.now) ≡ Err f)) }
+        (λ fault. IfSome (line_fault_of fault) (λ f. command_in last (view value.now) ≡ Err f)) }
     // That no operation is named is found out without memory.
     ensures memory { result ≡ Err TextFault.Memory → is_some (op_in (view value.now)) ≡ true }
 {
@@ -184,7 +196,7 @@ fn read_command(alloc: Global, value: &Value<'_, '_>) -> Result<Command, TextFau
     if let Some(key) = unknown_key(value, op.keys()) {
         return Err(unknown_key_fault(alloc, key));
     }
-    op.read(alloc, value, read_format(value))
+    op.read(alloc, value, last, read_format(value, last))
 }
 
 /// The operation that the text at `op` names.

@@ -3,7 +3,7 @@ use Rattle.std.specs.Prelude.{ℕ, pos, negsuc, List, [], ◌∷◌, ◌++◌, r
 use Rattle.std.specs.Fmt.{digits}
 use Rattle.std.specs.Str.{is_utf8, chars}
 use Rattle.serde_json.proofs.OnLiterals.{serde_json_on_literals}
-use Rattle.pgp_ids.specs.declared.bucket.BucketAlg.TheVariants.{Uniform, List as Weighed}
+use Rattle.pgp_ids.specs.declared.bucket.BucketAlg.TheVariants.{Uniform, List as Weighed, Straw2}
 use Rattle.pgp_ids.specs.declared.bucket.BucketSpec.{BucketSpec}
 use Rattle.pgp_ids.specs.declared.entry.Entry.TheVariants.{Inc}
 use Rattle.pgp_ids.specs.declared.incremental.DeviceWeight.{DeviceWeight}
@@ -199,6 +199,20 @@ edges_command = Submit (Inc (record (empty_inc 4294967295) {
   temp = record { pg = record { pool = 255; pg = 1023 }; osds = None ∷ Some 4095 ∷ None ∷ [] } ∷ record { pg = record { pool = 1; pg = 0 }; osds = [] } ∷ [];
   pools = record { id = 255; pg_num = 65535; kind = Erasure 0; size = 255; min_size = 0; leaf = 255 } ∷ [];
   crush = Some (sound_bucket (negsuc 65535) 0 Weighed (negsuc 65535 ∷ pos 65535 ∷ []) (0 ∷ 4294967295 ∷ []) refl ∷ []);
+}))
+
+-- an incremental whose tree is this bucket, with more keys
+abbrev pub root_line : List ℕ → List ℕ → List ℕ
+root_line keys bucket = inc_with (keys ++ codes "\"crush\":[{\"id\":-1,\"type\":1," ++ bucket ++ codes "}]")
+
+-- a straw2 bucket of two devices
+abbrev pub straw2_bucket : List ℕ
+straw2_bucket = codes "\"alg\":\"straw2\",\"items\":[0,1],\"weights\":[4294967295,0]"
+
+-- what a line says whose tree is that bucket
+abbrev pub straw2_command : Command
+straw2_command = Submit (Inc (record (empty_inc 1) {
+  crush = Some (sound_bucket (negsuc 0) 1 Straw2 (pos 0 ∷ pos 1 ∷ []) (4294967295 ∷ 0 ∷ []) refl ∷ []);
 }))
 
 -- the info of device 2 with nothing written yet, with more keys

@@ -9,5 +9,5 @@
 pub mod laws;
 mod reply;
 
-pub use pgp_lines::{Command, LineReader, MAX_EPOCHS, Op, read_line};
+pub use pgp_lines::{Command, Format, LineReader, MAX_EPOCHS, Op, read_line};
 pub use reply::{EntryOp, LineRefusal, Reply, ReplyWriter, write_reply};

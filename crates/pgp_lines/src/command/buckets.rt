@@ -34,7 +34,7 @@ impl Shape for Option<Seq<BucketSpec>> {
     }
 }
 
-/// A bucket: its head and its lists. A list bucket has as many weights as items.
+/// A bucket: its head and its lists. It has as many weights as items, or none in a uniform bucket.
 impl Shape for BucketSpec {
     ghost shape = { bucket_in };
 
@@ -87,6 +87,7 @@ fn read_alg(value: &Value<'_, '_>) -> Option<BucketAlg>
     match value.as_str()? {
         "uniform" => Some(BucketAlg::Uniform),
         "list" => Some(BucketAlg::List),
+        "straw2" => Some(BucketAlg::Straw2),
         _ => None,
     }
 }
@@ -126,7 +127,7 @@ fn read_head(value: &Value<'_, '_>) -> Option<Head>
     Some(Head { alg, id, kind })
 }
 
-/// The weights of a list bucket; any other has none.
+/// The weights, of which a uniform bucket has none.
 fn read_weights(
     alloc: Global,
     value: &Value<'_, '_>,

@@ -5,8 +5,7 @@ ghost use Rattle.pgp_lines.specs.LineFault.{line_fault_of};
 ghost use Rattle.pgp_lines.specs.Incremental.{no_change, with_down, with_pools, with_up, with_parts, inc_of};
 
 use super::fields::{read_optional, read_required};
-use super::format::{Format, judge_format, read_in};
-use super::pools::read_pools;
+use super::format::{Format, judge_at, judge_format, read_in};
 use super::value::Value;
 use pgp_ids::{Epoch, Incremental, Seq, TextFault};
 use std::alloc::Global;
@@ -15,14 +14,15 @@ use std::alloc::Global;
 pub(super) fn read_inc(
     alloc: Global,
     value: &Value<'_, '_>,
+    last: Format,
     format: Option<Format>,
 ) -> Result<Incremental, TextFault>
-    ensures ok { IfOk result (λ inc. inc_of format (view value.now) ≡ Ok inc) }
+    ensures ok { IfOk result (λ inc. inc_of last format (view value.now) ≡ Ok inc) }
     ensures err { IfErr result
-        (λ fault. IfSome (line_fault_of fault) (λ f. inc_of format (view value.now) ≡ Err f)) }
+        (λ fault. IfSome (line_fault_of fault) (λ f. inc_of last format (view value.now) ≡ Err f)) }
 {
     let mut inc = no_change(alloc);
-    put_parts(alloc, value, format, &mut inc)?;
+    put_parts(alloc, value, last, format, &mut inc)?;
     Ok(inc)
 }
 
@@ -50,26 +50,34 @@ fn no_change(alloc: Global) -> Incremental
 fn put_parts(
     alloc: Global,
     value: &Value<'_, '_>,
+    last: Format,
     format: Option<Format>,
     inc: &mut Incremental,
 ) -> Result<(), TextFault>
-    ensures ok { OnOk result (with_parts format inc.old (view value.now) ≡ Ok inc.new) }
+    ensures ok { OnOk result (with_parts last format inc.old (view value.now) ≡ Ok inc.new) }
     ensures err { IfErr result
-        (λ fault. IfSome (line_fault_of fault) (λ f. with_parts format inc.old (view value.now) ≡ Err f)) }
+        (λ fault. IfSome (line_fault_of fault) (λ f. with_parts last format inc.old (view value.now) ≡ Err f)) }
 {
-    put_down(alloc, value, inc)?;
-    put_pools(alloc, value, read_in(format), inc)?;
+    let read_as = read_in(last, format);
+    put_down(alloc, value, read_as, inc)?;
+    put_pools(alloc, value, read_as, inc)?;
     put_up(alloc, value, format, inc)?;
     Ok(())
 }
 
-/// Puts in the tree, the epoch and the devices that go.
-fn put_down(alloc: Global, value: &Value<'_, '_>, inc: &mut Incremental) -> Result<(), TextFault>
-    ensures ok { OnOk result (with_down inc.old (view value.now) ≡ Ok inc.new) }
+/// Puts in the tree, the epoch and the devices that go, in a line of this version.
+fn put_down(
+    alloc: Global,
+    value: &Value<'_, '_>,
+    format: Format,
+    inc: &mut Incremental,
+) -> Result<(), TextFault>
+    ensures ok { OnOk result (with_down format inc.old (view value.now) ≡ Ok inc.new) }
     ensures err { IfErr result
-        (λ fault. IfSome (line_fault_of fault) (λ f. with_down inc.old (view value.now) ≡ Err f)) }
+        (λ fault. IfSome (line_fault_of fault) (λ f. with_down format inc.old (view value.now) ≡ Err f)) }
 {
     read_optional(alloc, value, "crush", &mut inc.crush)?;
+    judge_at(alloc, "crush", format.has_tree(&inc.crush))?;
     read_optional(alloc, value, "down", &mut inc.down)?;
     inc.epoch = read_required(alloc, value, "epoch")?;
     read_optional(alloc, value, "gone", &mut inc.gone)?;
@@ -88,7 +96,8 @@ fn put_pools(
     ensures err { IfErr result
         (λ fault. IfSome (line_fault_of fault) (λ f. with_pools format inc.old (view value.now) ≡ Err f)) }
 {
-    read_pools(alloc, value, format, &mut inc.pools)?;
+    read_optional(alloc, value, "pools", &mut inc.pools)?;
+    judge_at(alloc, "pools", format.has_pools(inc.pools.as_slice()))?;
     read_optional(alloc, value, "sizes", &mut inc.sizes)?;
     read_optional(alloc, value, "temp", &mut inc.temp)?;
     Ok(())

@@ -91,16 +91,18 @@ impl Op {
             Op::Trace => &["code", "epochs", "op", "v"],
         }
     }
-    /// The command of its line, past the judgement of the line's keys; the line names this version.
+    /// The command of its line, past the judgement of the line's keys; the line names the version `format`, and lines up to
+    /// the version `last` are read.
     pub(super) fn read(
         self,
         alloc: Global,
         value: &Value<'_, '_>,
+        last: Format,
         format: Option<Format>,
     ) -> Result<Command, TextFault>
-        ensures ok { IfOk result (λ command. values_of self format (view value.now) ≡ Ok command) }
+        ensures ok { IfOk result (λ command. values_of self last format (view value.now) ≡ Ok command) }
         ensures err { IfErr result
-            (λ fault. IfSome (line_fault_of fault) (λ f. values_of self format (view value.now) ≡ Err f)) }
+            (λ fault. IfSome (line_fault_of fault) (λ f. values_of self last format (view value.now) ≡ Err f)) }
     {
         match self {
             Op::Ask => {
@@ -117,7 +119,7 @@ impl Op {
                 Ok(Command::Submit(Entry::Entries(report)))
             }
             Op::Inc => {
-                let inc = read_inc(alloc, value, format)?;
+                let inc = read_inc(alloc, value, last, format)?;
                 Ok(Command::Submit(Entry::Inc(inc)))
             }
             Op::Info => {
@@ -128,7 +130,7 @@ impl Op {
                 let (pool, name) = read_locate(alloc, value, format)?;
                 Ok(Command::Locate { pool, name })
             }
-            Op::Trace => read_trace(alloc, value, format),
+            Op::Trace => read_trace(alloc, value, last, format),
         }
     }
 }

@@ -1,20 +1,14 @@
 //! What a map incremental says of pools and of groups.
-ghost use Rattle.std.specs.Prelude.{◌≡◌, map, Ok, Err, IfOk, IfErr, IfSome, OnOk, codes};
+ghost use Rattle.std.specs.Prelude.{◌≡◌, map};
 ghost use Rattle.pgp_lines.specs.Value.{view};
-ghost use Rattle.std.specs.List.{list_all};
-ghost use Rattle.pgp_lines.specs.LineFault.{line_fault_of};
-ghost use Rattle.pgp_lines.specs.Format.{has_kind};
-ghost use Rattle.pgp_lines.specs.Shapes.{optional};
-ghost use Rattle.pgp_lines.specs.Pools.{pool_keys, pool_kind_in, pool_in, pools_in, pool_sizes_in, temp_in};
+ghost use Rattle.pgp_lines.specs.Pools.{pool_keys, pool_kind_in, pool_in, pool_sizes_in, temp_in};
 
-use super::faults::bad_field_fault;
-use super::format::Format;
 use super::groups::read_groups;
 use super::lists::{Shape, read_triple};
 use super::numbers::{byte_at, number_at, read_byte, read_group, read_pool_id};
 use super::objects::has_only;
 use super::value::Value;
-use pgp_ids::{PoolKind, PoolSizes, PoolSpec, Seq, TempList, TextFault};
+use pgp_ids::{PoolKind, PoolSizes, PoolSpec, Seq, TempList};
 use std::alloc::{AllocError, Global};
 
 impl Shape for PoolSpec {
@@ -49,53 +43,6 @@ impl Shape for TempList {
             None => Ok(None),
         }
     }
-}
-
-/// Puts the pools that a line of this version may have into `pools`.
-pub(super) fn read_pools(
-    alloc: Global,
-    value: &Value<'_, '_>,
-    format: Format,
-    pools: &mut Seq<PoolSpec>,
-) -> Result<(), TextFault>
-    ensures ok { OnOk result
-        (optional (codes "pools") (pools_in format) pools.old (view value.now) ≡ Ok pools.new) }
-    ensures err { IfErr result (λ fault. IfSome (line_fault_of fault)
-        (λ f. optional (codes "pools") (pools_in format) pools.old (view value.now) ≡ Err f)) }
-{
-    let Some(list) = value.get("pools") else {
-        return Ok(());
-    };
-    match read_pools_in(alloc, &list, format)? {
-        Some(found) => {
-            *pools = found;
-            Ok(())
-        }
-        None => Err(bad_field_fault(alloc, "pools")),
-    }
-}
-
-/// A list of pools, each of a kind that a line of this version can have.
-fn read_pools_in(
-    alloc: Global,
-    value: &Value<'_, '_>,
-    format: Format,
-) -> Result<Option<Seq<PoolSpec>>, AllocError>
-    ensures { IfOk result (λ found. found ≡ pools_in format (view value.now)) }
-{
-    let Some(pools) = Seq::read(alloc, value)? else {
-        return Ok(None);
-    };
-    if !has_kinds(format, pools.as_slice()) {
-        return Ok(None);
-    }
-    Ok(Some(pools))
-}
-
-fn has_kinds(format: Format, pools: &[PoolSpec]) -> bool
-    ensures { result ≡ list_all (λ pool. has_kind format pool.kind) pools.now }
-{
-    pools.iter().all(|pool| format.has_kind(&pool.kind))
 }
 
 /// A pool: an object with all keys of its kind and no other.

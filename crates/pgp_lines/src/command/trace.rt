@@ -29,13 +29,14 @@ const MAX_SIZE: u8 = 16;
 pub(super) fn read_trace(
     alloc: Global,
     value: &Value<'_, '_>,
+    last: Format,
     format: Option<Format>,
 ) -> Result<Command, TextFault>
-    ensures ok { IfOk result (λ command. trace_of format (view value.now) ≡ Ok command) }
+    ensures ok { IfOk result (λ command. trace_of last format (view value.now) ≡ Ok command) }
     ensures err { IfErr result
-        (λ fault. IfSome (line_fault_of fault) (λ f. trace_of format (view value.now) ≡ Err f)) }
+        (λ fault. IfSome (line_fault_of fault) (λ f. trace_of last format (view value.now) ≡ Err f)) }
 {
-    let Some(code) = read_code(value, read_in(format)) else {
+    let Some(code) = read_code(value, read_in(last, format)) else {
         return Err(bad_field_fault(alloc, "code"));
     };
     let found = match value.get("epochs") {
