@@ -1,5 +1,6 @@
 -- What buckets choose, place by place.
-use Rattle.std.proofs.Common.{◌≡◌, ℕ, cond, zero, suc, ◌+◌, ◌-◌, ◌<◌, Bool, false, ℤ, pos, List, ◌∷◌, length, slice_get, slice_index, slice_index_or, inl, inr, refl, arith, ap, ◌∙◌, add-one, Some, None}
+use Rattle.std.proofs.Common.{◌≡◌, ℕ, cond, zero, suc, ◌+◌, ◌-◌, ◌^◌, ◌<◌, ◌≤◌, Bool, nat_eq, false, ℤ, pos, List, ◌∷◌, length, slice_get, slice_index, slice_index_or, inl, inr, refl, arith, ap, ◌∙◌, add-one, Some, None}
+use Rattle.std.proofs.Math.Nat.{div-le_self}
 use Rattle.std.proofs.lemmas.Bool.{cases_Bool, cases_lt}
 use Rattle.std.proofs.lemmas.Grind.{common_steps}
 use Rattle.std.proofs.lemmas.Bool.Decides.{nat_tests}
@@ -7,11 +8,12 @@ use Rattle.std.proofs.lemmas.List.{get_or_past}
 use Rattle.std.proofs.lemmas.Option.{slice_get-get_or, slice_get_past}
 use Rattle.std.specs.List.{All}
 use Rattle.std.specs.Option.{unwrap_or}
-use Rattle.pgp_ids.specs.declared.bucket.BucketAlg.TheVariants.{Uniform, List as Weighed}
+use Rattle.pgp_ids.specs.declared.bucket.BucketAlg.TheVariants.{Uniform, List as Weighed, Straw2}
 use Rattle.pgp_crush.specs.Bucket.{Bucket}
 use Rattle.pgp_crush.specs.Least.{greatest_below}
-use Rattle.pgp_crush.specs.Chosen.{uniform_place_within, list_place_within}
-use Rattle.pgp_crush.specs.Choice.{word_of, place_before, traced_back, uniform_place, weight_passes, list_place, choice}
+use Rattle.pgp_crush.specs.Chosen.{uniform_place_within, list_place_within, straw2_place_within}
+use Rattle.pgp_crush.specs.Choice.{word_of, place_before, traced_back, uniform_place, weight_passes, list_place, draw, straw2_place, choice}
+use Rattle.pgp_crush.specs.Logarithm.{logarithm}
 
 -- ---- uniform buckets
 
@@ -50,6 +52,15 @@ place_below-more x r id items weights i some =
 
 pub ruleset place_steps = (common_steps, list_place_is, place_below-none)
 
+-- ---- straw2 buckets
+
+-- no item draws more than one of no weight
+pub draw_within : (hash weight : ℕ) → draw hash weight ≤ 2 ^ 63
+draw_within hash weight = elim (cases_Bool (nat_eq weight 0)) [
+  | inl none ↦ rw none (omega arith)
+  | inr some ↦ rw some (omega (arith, div-le_self (2 ^ 48 - logarithm hash) weight))
+]
+
 -- ---- a bucket that is empty, and one that isn't
 
 pub choice-empty : (x r : ℕ) (b : Bucket) → length b.items ≡ 0 → choice x r b ≡ None
@@ -65,6 +76,11 @@ pub choice-list : (x r : ℕ) (b : Bucket) → b.alg ≡ Weighed → 0 < length 
     choice x r b ≡ Some (slice_index_or b.items (list_place x r (word_of b.id) b.items b.weights) (pos 0))
 unfolding choice
 choice-list x r b alg some = rw alg (slice_get-get_or b.items _ (pos 0) (list_place_within x r (word_of b.id) b.items b.weights some))
+
+pub choice-straw2 : (x r : ℕ) (b : Bucket) → b.alg ≡ Straw2 → 0 < length b.items →
+    choice x r b ≡ Some (slice_index_or b.items (straw2_place x r b.items b.weights) (pos 0))
+unfolding choice
+choice-straw2 x r b alg some = rw alg (slice_get-get_or b.items _ (pos 0) (straw2_place_within x r b.items b.weights some))
 
 -- ---- a list bucket of whose weights all but the first are 0
 

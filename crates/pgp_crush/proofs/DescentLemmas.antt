@@ -10,7 +10,7 @@ use Rattle.pgp_crush.specs.declared.descent.Descent.TheVariants.{Empty}
 use Rattle.pgp_crush.specs.Bucket.{Bucket, bucket_at}
 use Rattle.pgp_crush.specs.Choice.{choice}
 use Rattle.pgp_crush.specs.Descent.{rank_at, path, step_of, at_step, first_stop}
-use Rattle.pgp_crush.proofs.ChoiceLemmas.{choice-empty, choice-uniform, choice-list}
+use Rattle.pgp_crush.proofs.ChoiceLemmas.{choice-empty, choice-uniform, choice-list, choice-straw2}
 
 -- the bucket found for an id has it
 pub bucket_at-id : (tree : List Bucket) (id : ℤ) (b : Bucket) → bucket_at tree id ≡ Some b → b.id ≡ id
@@ -39,4 +39,4 @@ unfolding path first_stop
 down-more tree x rank kind m b = rw add-one (grind (arith, path-none))
 
 -- what a level comes to, by what its bucket chooses
-pub ruleset level_steps = (down-more, choice-empty, choice-uniform, choice-list, nat_tests, to_z-of_z)
+pub ruleset level_steps = (down-more, choice-empty, choice-uniform, choice-list, choice-straw2, nat_tests, to_z-of_z)

@@ -8,3 +8,4 @@ pub mod ReachLemmas
 pub mod ChoiceLemmas
 pub mod PlacementLemmas
 pub mod FewerInLemmas
+mod LogarithmLemmas

@@ -10,7 +10,7 @@ use Rattle.pgp_lists.proofs.Members.{Contains-nil, Contains-cases, contains-filt
 use Rattle.pgp_crush.specs.declared.descent.Rank.{Rank}
 use Rattle.pgp_crush.specs.declared.descent.Step.{Step}
 use Rattle.pgp_crush.specs.Bucket.{Bucket, bucket_at, is_held}
-use Rattle.pgp_crush.specs.Choice.{word_of, uniform_place, list_place, choice}
+use Rattle.pgp_crush.specs.Choice.{word_of, uniform_place, list_place, straw2_place, choice}
 use Rattle.pgp_crush.specs.Descent.{rank_at, path, step_of}
 use Rattle.pgp_crush.specs.TreeFault.{items_of, is_known, has_unknown, is_too_deep, below_levels, tree_fault, fault_below_root}
 use Rattle.pgp_crush.proofs.DescentLemmas.{path-none, bucket_at-id}
@@ -28,8 +28,8 @@ choice-in : (x r : ℕ) (b : Bucket) (item : ℤ) → choice x r b ≡ Some item
 unfolding choice
 choice-in x r b item h =
     let at : (slice_get b.items (uniform_place x r (word_of b.id) (length b.items)) ≡ Some item)
-    ⊎ (slice_get b.items (list_place x r (word_of b.id) b.items b.weights) ≡ Some item) = grind arith in
-    elim at [ inl is ↦ got b.items _ item is | inr is ↦ got b.items _ item is ]
+    ⊎ ((slice_get b.items (list_place x r (word_of b.id) b.items b.weights) ≡ Some item) ⊎ (slice_get b.items (straw2_place x r b.items b.weights) ≡ Some item)) = grind arith in
+    elim at [ inl is ↦ got b.items _ item is | inr (inl is) ↦ got b.items _ item is | inr (inr is) ↦ got b.items _ item is ]
 
 -- ---- every item is known
 

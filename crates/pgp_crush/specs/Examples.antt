@@ -2,7 +2,7 @@
 use Rattle.std.specs.Prelude.{ℕ, zero, suc, ℤ, pos, negsuc, [], ◌∷◌, List}
 use Rattle.std.specs.List.{range_with_len}
 use Rattle.std.specs.Prelude.{map}
-use Rattle.pgp_ids.specs.declared.bucket.BucketAlg.TheVariants.{Uniform, List as Weighed}
+use Rattle.pgp_ids.specs.declared.bucket.BucketAlg.TheVariants.{Uniform, List as Weighed, Straw2}
 use Rattle.pgp_crush.specs.Bucket.{Bucket}
 
 -- a uniform bucket
@@ -12,6 +12,10 @@ uniform id kind items = record { id = id; kind = kind; alg = Uniform; items = it
 -- a list bucket of id -1 over devices 0 and 1
 abbrev pub weighed : List ℕ → Bucket
 weighed weights = record { id = negsuc 0; kind = 1; alg = Weighed; items = pos 0 ∷ pos 1 ∷ []; weights = weights }
+
+-- a straw2 bucket of id -1
+abbrev pub straw2 : List ℤ → List ℕ → Bucket
+straw2 items weights = record { id = negsuc 0; kind = 1; alg = Straw2; items = items; weights = weights }
 
 -- a uniform root over devices 0, 1 and 2
 abbrev pub three_devices : List Bucket

@@ -6,17 +6,25 @@ use Rattle.std.specs.List.{find, list_any}
 use Rattle.std.specs.Option.{option_map_or}
 use Rattle.pgp_crush.specs.Least.{greatest_below}
 
--- The first n binary digits of the binary logarithm of y / 2 ^ 63, for a y from 2 ^ 63 on and below 2 ^ 64, as one number.
--- A square has twice the logarithm. Where that is 1 or more, the next digit is 1.
-unfoldable pub log_digits : ℕ → ℕ → ℕ
-log_digits zero y = 0
-log_digits (suc n) y =
-    let square = y * y / 2 ^ 63 in
-    if nat_lt square (2 ^ 64) then log_digits n square else 2 ^ n + log_digits n (square / 2)
+-- the first binary digits of a logarithm, as one number, and the number whose logarithm is what is left: it is from 1 on and
+-- below 2, in units of 2 ^ -63
+pub record Digits : Type 0 where
+  pub digits : ℕ
+  pub rest : ℕ
 
--- 2 ^ 48 times that logarithm, the whole part
+-- with one digit more: the square has twice the logarithm, and the digit is 1 where the square reaches 2
+abbrev pub with_digit : Digits → ℕ → Digits
+with_digit d square =
+    if nat_lt square (2 ^ 64) then record { digits = 2 * d.digits; rest = square } else record { digits = 2 * d.digits + 1; rest = square / 2 }
+
+-- the first n digits of the binary logarithm of y / 2 ^ 63
+unfoldable pub log_digits : ℕ → ℕ → Digits
+log_digits y zero = record { digits = 0; rest = y }
+log_digits y (suc n) = let d = log_digits y n in with_digit d (d.rest * d.rest / 2 ^ 63)
+
+-- 2 ^ 48 times that logarithm, the whole part, for a y from 2 ^ 63 on and below 2 ^ 64
 abbrev pub binary_log : ℕ → ℕ
-binary_log y = log_digits 48 y
+binary_log y = (log_digits y 48).digits
 
 -- 2 ^ 48 / (1 + k / 128), rounded up, for a k up to 128
 abbrev pub reciprocal : ℕ → ℕ

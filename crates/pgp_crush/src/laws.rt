@@ -1,7 +1,7 @@
 //! Worked examples that the definitions compute, and that the table of an erasure pool's placement is one and the only one.
 #![tactic(auto, unfolding(crate::specs::Worked::placements_computed))]
 
-ghost use Rattle.std.specs.Prelude.{◌≡◌, ◌≤◌, ℕ, ℤ, ◌+◌, pos, negsuc, [], ◌∷◌, Some, None, true, List, Option, Contains, length, map};
+ghost use Rattle.std.specs.Prelude.{◌≡◌, ◌≤◌, ℕ, ℤ, ◌+◌, ◌*◌, pos, negsuc, [], ◌∷◌, Some, None, true, List, Option, Contains, length, map, sum};
 ghost use Rattle.pgp_ids.specs.Osds.{first_osd, osd_count};
 ghost use Rattle.pgp_crush.specs.declared.fault.TreeFault.TheVariants.{NoRoot, TwiceHeld, WrongType, Unknown, TooDeep, TooMany, WeightSum};
 ghost use Rattle.pgp_crush.specs.declared.descent.Rank.{Rank};
@@ -10,6 +10,7 @@ ghost use Rattle.pgp_crush.specs.declared.descent.Step.{Step};
 ghost use Rattle.pgp_crush.specs.declared.descent.Descent.TheVariants.{Early, Empty};
 ghost use Rattle.pgp_crush.specs.Candidate.{Input, input_of};
 ghost use Rattle.pgp_crush.specs.Choice.{choice};
+ghost use Rattle.pgp_crush.specs.Logarithm.{reciprocal, coarse_log, fine_log, logarithm};
 ghost use Rattle.pgp_crush.specs.Descent.{path, descent};
 ghost use Rattle.pgp_crush.specs.FirstN.{first_n};
 ghost use Rattle.pgp_crush.specs.Out.{is_in};
@@ -21,7 +22,7 @@ ghost use Rattle.pgp_crush.specs.Cells.{indep};
 ghost use Rattle.pgp_crush.specs.Indep.{IsTable, IsIndep, place_at};
 ghost use Rattle.pgp_crush.specs.Bucket.{Bucket, root_of};
 ghost use Rattle.pgp_crush.specs.TreeFault.{is_known, tree_fault};
-ghost use Rattle.pgp_crush.specs.Examples.{uniform, weighed, three_devices, one_in, device_in_a_row, empty_root, two_hosts, outer_in, four_in_a_list, four_in, chain, wide};
+ghost use Rattle.pgp_crush.specs.Examples.{uniform, weighed, straw2, three_devices, one_in, device_in_a_row, empty_root, two_hosts, outer_in, four_in_a_list, four_in, chain, wide};
 
 /// Of three devices device 0 alone is in: a replicated pool lists it, and in an erasure pool one place of three has it.
 pub fn one_device_in()
@@ -52,6 +53,58 @@ pub fn list_of_little_weight()
 pub fn first_item_of_all_weight()
     ensures { (x r : ℕ) (b : Bucket) (item : ℤ) (items : List ℤ) (weight : ℕ) (weights : List ℕ) → b.alg ≡ Weighed → b.items ≡ item ∷ items
         → b.weights ≡ weight ∷ weights → All (λ w. w ≡ 0) weights → choice x r b ≡ Some item }
+{}
+
+/// A straw2 bucket chooses what Ceph's does.
+pub fn straw2_choices()
+    ensures equal_weights { choice 0 0 (straw2 (pos 0 ∷ pos 1 ∷ pos 2 ∷ []) (65536 ∷ 65536 ∷ 65536 ∷ [])) ≡ Some (pos 0) }
+    ensures another_try { choice 0 3 (straw2 (pos 0 ∷ pos 1 ∷ pos 2 ∷ []) (65536 ∷ 65536 ∷ 65536 ∷ [])) ≡ Some (pos 2) }
+    ensures small_weights { choice 1 0 (straw2 (pos 0 ∷ pos 1 ∷ pos 2 ∷ []) (65536 ∷ 131072 ∷ 196608 ∷ [])) ≡ Some (pos 2) }
+    ensures second_choice { choice 1 1 (straw2 (pos 0 ∷ pos 1 ∷ pos 2 ∷ []) (65536 ∷ 131072 ∷ 196608 ∷ [])) ≡ Some (pos 0) }
+    ensures disks { choice 12345 0 (straw2 (pos 7 ∷ pos 3 ∷ pos 9 ∷ pos 4 ∷ []) (57231 ∷ 119208 ∷ 238465 ∷ 57231 ∷ [])) ≡ Some (pos 7) }
+    ensures third_choice { choice 12345 2 (straw2 (pos 7 ∷ pos 3 ∷ pos 9 ∷ pos 4 ∷ []) (57231 ∷ 119208 ∷ 238465 ∷ 57231 ∷ [])) ≡ Some (pos 9) }
+    ensures uneven_weights { choice 2147483646 0 (straw2 (pos 10 ∷ pos 11 ∷ pos 12 ∷ pos 13 ∷ pos 14 ∷ []) (32768 ∷ 65536 ∷ 1 ∷ 99 ∷ 327680 ∷ [])) ≡ Some (pos 14) }
+    ensures buckets { choice 77 0 (straw2 (negsuc 1 ∷ negsuc 2 ∷ negsuc 3 ∷ negsuc 4 ∷ []) (196608 ∷ 65536 ∷ 65536 ∷ 131072 ∷ [])) ≡ Some (negsuc 1) }
+    ensures second_bucket { choice 77 1 (straw2 (negsuc 1 ∷ negsuc 2 ∷ negsuc 3 ∷ negsuc 4 ∷ []) (196608 ∷ 65536 ∷ 65536 ∷ 131072 ∷ [])) ≡ Some (negsuc 2) }
+    ensures low_ids { choice 987654321 0 (straw2 (negsuc 65535 ∷ negsuc 39999 ∷ negsuc 8 ∷ negsuc 1 ∷ []) (65536 ∷ 65536 ∷ 458752 ∷ 65536 ∷ [])) ≡ Some (negsuc 8) }
+    ensures large_weights { choice 42 0 (straw2 (negsuc 9 ∷ negsuc 10 ∷ negsuc 11 ∷ []) (1342177280 ∷ 1073741824 ∷ 1073676288 ∷ [])) ≡ Some (negsuc 10) }
+    ensures large_weights_again { choice 42 2 (straw2 (negsuc 9 ∷ negsuc 10 ∷ negsuc 11 ∷ []) (1342177280 ∷ 1073741824 ∷ 1073676288 ∷ [])) ≡ Some (negsuc 9) }
+    ensures large_weights_once_more { choice 42 3 (straw2 (negsuc 9 ∷ negsuc 10 ∷ negsuc 11 ∷ []) (1342177280 ∷ 1073741824 ∷ 1073676288 ∷ [])) ≡ Some (negsuc 11) }
+{}
+
+/// An item of no weight loses to each other in a straw2 bucket. Of equal draws the first wins, whatever their fractions say.
+pub fn straw2_corners()
+    ensures no_weight { choice 5 0 (straw2 (pos 4 ∷ pos 5 ∷ pos 6 ∷ []) (0 ∷ 0 ∷ 0 ∷ [])) ≡ Some (pos 4) }
+    ensures one_weight { choice 6 0 (straw2 (pos 4 ∷ pos 5 ∷ pos 6 ∷ []) (0 ∷ 1 ∷ 0 ∷ [])) ≡ Some (pos 5) }
+    ensures equal_draws { choice 55260 0 (straw2 (pos 0 ∷ pos 1 ∷ []) (2147483648 ∷ 2147483647 ∷ [])) ≡ Some (pos 0) }
+    ensures rounded_down { choice 193 0 (straw2 (pos 0 ∷ pos 1 ∷ []) (67657 ∷ 3219271 ∷ [])) ≡ Some (pos 1) }
+{}
+
+/// Logarithms of hashes.
+pub fn logarithms_of_hashes()
+    ensures of_zero { logarithm 0 ≡ 0 }
+    ensures of_one { logarithm 1 ≡ 17592186044416 }
+    ensures of_two { logarithm 2 ≡ 27882955186109 }
+    ensures of_a_byte { logarithm 255 ≡ 140737488355328 }
+    ensures of_a_thousand { logarithm 1000 ≡ 175345047775141 }
+    ensures nothing_added { logarithm 32767 ≡ 263882790666240 }
+    ensures odd_entry { logarithm 32823 ≡ 263926462280517 }
+    ensures another_odd_entry { logarithm 32894 ≡ 263981028385179 }
+    ensures next_coarse_entry { logarithm 33023 ≡ 264080302632414 }
+    ensures the_same { logarithm 33024 ≡ 264080302632414 }
+    ensures two_thirds { logarithm 43690 ≡ 271184163638610 }
+    ensures greatest { logarithm 65534 ≡ 281474932780304 }
+    ensures last_coarse_entry { logarithm 65535 ≡ 281474708275200 }
+{}
+
+/// The tables of the logarithm have the sums of those of Ceph's library, and those of place times entry, from place 1 on.
+pub fn sums_of_the_tables()
+    ensures reciprocals { sum (map (λ k. reciprocal k) (range_with_len 0 129)) ≡ 0x59792bfbd8e818 }
+    ensures reciprocals_by_place { sum (map (λ k. (k + 1) * reciprocal k) (range_with_len 0 129)) ≡ 0x141ce32e0f65084d }
+    ensures coarse { sum (map (λ k. coarse_log k) (range_with_len 0 129)) ≡ 0x47d5a50fa139ff }
+    ensures coarse_by_place { sum (map (λ k. (k + 1) * coarse_log k) (range_with_len 0 129)) ≡ 0x179d414310467426 }
+    ensures fine { sum (map (λ i. fine_log i) (range_with_len 0 256)) ≡ 0x1701049d1d61a }
+    ensures fine_by_place { sum (map (λ i. (i + 1) * fine_log i) (range_with_len 0 256)) ≡ 0xf603e125d8eb2e }
 {}
 
 /// Two hosts, of each of which one device is in, and a list of four equal weights: each position has its own place.

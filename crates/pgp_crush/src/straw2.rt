@@ -1,12 +1,12 @@
 //! Straw2 buckets, in which each item draws by itself.
 
-ghost use Rattle.std.specs.Prelude.{◌≡◌, ◌-◌, ◌%◌, ◌^◌, ◌<◌, pos, length, slice_index_or};
+ghost use Rattle.std.specs.Prelude.{◌≡◌, ◌-◌, ◌%◌, ◌^◌, ◌<◌, ◌≤◌, pos, length, slice_index_or, IfSome, IfNone};
 ghost use Rattle.pgp_crush.specs.Logarithm.{logarithm};
-ghost use Rattle.pgp_crush.specs.Choice.{straw2_place};
+ghost use Rattle.pgp_crush.specs.Choice.{draw, straw2_place};
 ghost use Rattle.pgp_crush.specs.Chosen.{straw2_chooses_item};
 
 use super::chooser::Chooser;
-use super::logarithm::logarithm;
+use super::logarithms::logarithm;
 use pgp_hash::hash3;
 
 /// A straw2 bucket.
@@ -32,8 +32,6 @@ impl Chooser for Straw2<'_> {
 }
 
 /// The place of the first item whose draw is the least.
-///
-/// A draw is a quotient, rounded down, so it is below a whole number where the quotient is; only a draw that leads is divided out.
 fn straw2_place(x: u32, r: u32, items: &[i32], weights: &[u32]) -> usize
     requires some { 0 < length items.now }
     requires weighed { length weights.now ≡ length items.now }
@@ -41,12 +39,11 @@ fn straw2_place(x: u32, r: u32, items: &[i32], weights: &[u32]) -> usize
     ensures within { result < length items.now }
 {
     let mut place = 0;
-    let mut least = NO_DRAW;
+    let mut least = WEIGHTLESS;
     for i in 0..items.len() {
-        let left = left_of(hash3(x, items[i].cast_unsigned(), r));
-        let weight = u64::from(weights[i]);
-        if u128::from(left) < u128::from(least) * u128::from(weight) {
-            least = left / weight;
+        let hash = hash3(x, items[i].cast_unsigned(), r);
+        if let Some(draw) = draw_below(least, hash, weights[i]) {
+            least = draw;
             place = i;
         }
     }
@@ -54,7 +51,23 @@ fn straw2_place(x: u32, r: u32, items: &[i32], weights: &[u32]) -> usize
 }
 
 /// What an item of weight 0 draws.
-const NO_DRAW: u64 = 1 << 63;
+const WEIGHTLESS: u64 = 1 << 63;
+
+/// What an item of this weight draws by the lowest 16 bits of a hash, if that is below `limit`.
+///
+/// A quotient is below a whole number before it is rounded down just if it is after, so only a draw that is wanted is divided.
+fn draw_below(limit: u64, hash: u32, weight: u32) -> Option<u64>
+    requires { limit ≤ 2 ^ 63 }
+    ensures below { IfSome result (λ d. (d ≡ draw (hash % 2 ^ 16) weight) × (d < limit)) }
+    ensures not_below { IfNone result (limit ≤ draw (hash % 2 ^ 16) weight) }
+{
+    let left = left_of(hash);
+    if u128::from(left) < u128::from(limit) * u128::from(weight) {
+        Some(left / u64::from(weight))
+    } else {
+        None
+    }
+}
 
 /// What the logarithm of a hash's lowest 16 bits leaves of 2^48.
 fn left_of(hash: u32) -> u64
