@@ -14,7 +14,9 @@ from .nodes import Node, Unusable, parsed, text_of
 from .notes import Notes
 from .sets import Where, is_printed, printed_sets
 
-LOG_NAME = re.compile(r"(?:^|[^0-9])osd\.?(\d{1,4})[^0-9].*?(\d{1,3}\.[0-9a-f]{1,3})(?:s(\d{1,2}))?(?=[^0-9a-f]|$)")
+LOG_NAME = re.compile(r"(?:^|[^0-9])osd\.?(\d{1,4})[^0-9].*?(\d{1,9}\.[0-9a-f]{1,8})(?:s(\d{1,2}))?(?=[^0-9a-f]|$)")
+INFO_NAME = re.compile(r"(?:^|[^0-9])osd\.?(\d{1,4})(?=[^0-9])")
+BINARY = ".osdmap"  # the end of the name of a map as Ceph keeps it, for osdmaptool
 
 
 @dataclass
@@ -27,6 +29,8 @@ class Dumps:
     stats: List[Node] = field(default_factory=list)  # of `ceph pg dump`
     queries: List[Node] = field(default_factory=list)
     logs: List[Tuple[int, str, Node]] = field(default_factory=list)  # the device, the group with its shard
+    uses: List[Node] = field(default_factory=list)  # of `ceph osd df tree`
+    infos: List[Tuple[int, Node]] = field(default_factory=list)  # of stopped devices: the device and its info
     not_fetched: Notes = field(default_factory=Notes)  # what `fetch` told
 
 
@@ -48,7 +52,7 @@ def files_of(paths: List[str]) -> List[str]:
                 names = sorted(os.listdir(path))
             except OSError as fault:
                 raise Unusable(f"{path}: {fault.strerror}") from fault
-            inside = (os.path.join(path, name) for name in names if not name.startswith("."))
+            inside = (os.path.join(path, name) for name in names if not name.startswith(".") and not name.endswith(BINARY))
             found += [it for it in inside if os.path.isfile(it)]
         else:
             found.append(path)
@@ -65,7 +69,7 @@ def kind_of(node: Node) -> str:
     """What a dump is, by its keys."""
     for kind, keys in (("map", ("epoch", "osds", "pools")), ("tree", ("buckets", "rules")), ("log", ("pg_log_t",)),
                        ("query", ("info", "peer_info", "acting")), ("stats", ("pg_stats",)), ("stats", ("pg_map",)),
-                       ("use", ("nodes", "summary")), ("notes", ("not_fetched",))):
+                       ("info", ("pgid", "last_update", "history")), ("use", ("nodes", "summary")), ("notes", ("not_fetched",))):
         if all(node.has(key) for key in keys):
             return kind
     return ""
@@ -100,7 +104,7 @@ def told_apart(path: str) -> Tuple[str, Node, str]:
     node = parsed(text, where)
     kind = kind_of(node)
     if not kind:
-        raise Unusable(f"{where} is no map, tree, list of groups, query or log of Ceph's")
+        raise Unusable(f"{where} is no map, tree, list of groups, query, info or log of Ceph's")
     return text, node, kind
 
 
@@ -119,6 +123,10 @@ def take_file(path: str, text: str, node: Node, kind: str, dumps: Dumps, loose: 
         take_notes(node.key("not_fetched"), dumps.not_fetched)
     elif kind == "log":
         dumps.logs.append((*log_of(path), node))
+    elif kind == "info":
+        dumps.infos.append((device_of(path), node))
+    elif kind == "use":
+        dumps.uses.append(node)
 
 
 def take_notes(node: Node, notes: Notes) -> None:
@@ -154,6 +162,14 @@ def log_of(path: str) -> Tuple[int, str]:
     if not found:
         raise Unusable(f"{path}: the name of a log's file has to tell the device and the group, as osd.2-1.0.log.json")
     return int(found[1]), found[2] + (f"s{found[3]}" if found[3] else "")
+
+
+def device_of(path: str) -> int:
+    """The device of an info, by the name of its file."""
+    found = INFO_NAME.search(os.path.basename(path))
+    if not found:
+        raise Unusable(f"{path}: the name of an info's file has to tell the device, as osd.2-1.0.info.json")
+    return int(found[1])
 
 
 def epoch_of(path: str, loose: LooseFiles) -> int:

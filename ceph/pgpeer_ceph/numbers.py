@@ -141,11 +141,17 @@ def stats_under(dump: Node, numbers: Numbers) -> List[Dict[str, Any]]:
 
 
 def query_under(query: Node, numbers: Numbers) -> Node:
-    info = query.key("info")
-    name = info.key("pgid").text()
-    shard = re.search(r"(s[0-9]+)?$", name)
-    text = group_text(numbers.scripts[read_group(info.key("pgid"))]) + (shard[0] if shard else "")
-    return Node({**query.value, "info": {**info.value, "pgid": text}}, query.where)
+    return Node({**query.value, "info": info_under(query.key("info"), numbers)}, query.where)
+
+
+def infos_under(dumps: Dumps, numbers: Numbers) -> List[Tuple[int, Node]]:
+    """The infos of stopped devices."""
+    return [(osd, Node(info_under(node, numbers), node.where)) for osd, node in dumps.infos if read_group(node.key("pgid")) in numbers.scripts]
+
+
+def info_under(info: Node, numbers: Numbers) -> Dict[str, Any]:
+    shard = re.search(r"(s[0-9]+)?$", info.key("pgid").text())
+    return {**info.value, "pgid": group_text(numbers.scripts[read_group(info.key("pgid"))]) + (shard[0] if shard else "")}
 
 
 def sets_under(epoch: int, dumps: Dumps, numbers: Numbers) -> Dict[Group, Where]:

@@ -24,6 +24,7 @@ class Reasons(NamedTuple):
     losses: Dict[str, Any]
     unheard: List[List[int]]
     epochs: Epochs = Epochs()  # how those of the script, in all keys except `says`, go together with Ceph's
+    whole: Dict[str, Any] = {}  # all keys, as the program gave them
 
     def waits(self) -> Dict[int, str]:
         """For which devices the group waits, and how."""
@@ -87,6 +88,6 @@ def explained(program: str, lines: Iterable[str], group: str, epochs: Epochs = E
     try:
         found = json.loads(run.stdout)
         reasons = Reasons(*(found[key] for key in KEYS), epochs)
-        return reasons._replace(says=in_ceph(reasons.says, epochs))
+        return reasons._replace(says=in_ceph(reasons.says, epochs), whole=found)
     except (ValueError, RecursionError, KeyError, TypeError) as fault:
         raise Unusable(f"{program} explain gave no explanation") from fault

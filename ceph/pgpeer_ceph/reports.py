@@ -59,6 +59,10 @@ class Query(NamedTuple):
     probing: Optional[List[Member]]  # while it peers
     blocked_by: List[int]
 
+    def les(self) -> int:
+        """The last epoch in which the group is known to have begun to serve."""
+        return max((info.history_les for info in self.infos), default=0)
+
 
 # Reading
 
@@ -85,6 +89,13 @@ def read_info(info: Node, group: Group, member: Member, stamp: int) -> Info:
     return Info(group, member, stamp, info.key("last_epoch_started").count(), history.key("last_epoch_started").count(),
                 history.count_of("last_epoch_clean"), read_version(info.key("last_update")), read_version(info.key("log_tail")),
                 info.key("last_backfill").text() == "MAX")
+
+
+def read_stopped(node: Node, osd: int) -> Info:
+    """What `ceph-objectstore-tool --op info` prints of a copy on a stopped device."""
+    pgid = node.key("pgid")
+    shard = re.search(r"s([0-9]+)$", pgid.text())
+    return read_info(node, read_group(pgid), (osd, int(shard[1]) if shard else 0), 0)
 
 
 def read_query(node: Node) -> Query:

@@ -1,15 +1,16 @@
 """The verb `script`: the script of a cluster's history, from the dumps of maps, trees, groups, queries and logs."""
 
 import argparse
+from dataclasses import replace
 from typing import Any
 
 from .carry import PLACING, finish, is_misplaced, options_of_scripts
-from .folder import read_folder
+from .folder import Dumps, read_folder
 from .history import Script, history
 from .maps import named_group
 from .nodes import MOST, Unusable
 from .notes import Notes
-from .numbers import Numbers, do_fit, numbers_of, renumbered
+from .numbers import Numbers, do_fit, infos_under, numbers_of, renumbered
 from .story import Selection
 
 ABOUT = """\
@@ -23,8 +24,12 @@ then nothing was written.
 
 
 def whole_history(options: argparse.Namespace, notes: Notes) -> Script:
+    """The script of all dumps that the command line names."""
+    return history_of(read_folder([*options.files, *options.groups], notes), options, notes)
+
+
+def history_of(dumps: Dumps, options: argparse.Namespace, notes: Notes) -> Script:
     """The script of all dumps. Where the tree can't be carried and groups were dumped, acting sets are Ceph's."""
-    dumps = read_folder([*options.files, *options.groups], notes)
     for cause, things in dumps.not_fetched.things.items():
         for thing in things:
             notes.tell(f"not fetched: {cause}", thing)
@@ -37,7 +42,8 @@ def whole_history(options: argparse.Namespace, notes: Notes) -> Script:
     numbers, has_sets = Numbers(), bool(dumps.sets or dumps.stats or dumps.queries)
     if has_sets and not do_fit(dumps):
         numbers = numbers_of(dumps, options.pool, {named_group(words) for words in options.pg}, notes)
-        dumps, wanted = renumbered(dumps, numbers), wanted._replace(own_sets=True, pools=[])
+        dumps = replace(renumbered(dumps, numbers), infos=infos_under(dumps, numbers))
+        wanted = wanted._replace(own_sets=True, pools=[])
     first = Notes()
     found = history(dumps, wanted, first)
     if not wanted.own_sets and has_sets and is_misplaced(first):

@@ -1,13 +1,14 @@
 """A cluster's history, as its dumps tell it: maps, trees, where groups lay, and what their members reported."""
 
-from typing import Any, Dict, List, NamedTuple, Set, Tuple
+from typing import Any, Dict, Iterator, List, NamedTuple, Set, Tuple
 
 from .changes import Snapshot
 from .folder import Dumps, version_of
 from .maps import Group, Places, group_text, read_devices, read_group, read_pools, read_temps, tell_map
 from .nodes import MOST, Node, Unusable
 from .notes import Notes
-from .reports import Info, Query, Version, infos_of_stats, is_active, read_log, read_query, tell_faults
+from .reports import (Info, Query, Version, infos_of_stats, is_active, latest_of, read_log, read_query, read_stopped,
+                      tell_faults)
 from .sets import Where, dumped_sets, stats_of
 from .trees import Crush, read_crush, tell_classes, within_all_groups
 
@@ -16,6 +17,9 @@ LOGS = ("logs of groups that are active in Ceph, which are carried without, so w
 STATS = "reports of members of groups that are active, of which ceph pg dump tells: acting members are taken for complete"
 FEWER = ("intervals of lrc pools in which Ceph may have gone read-write on fewer chunks than the script wants, which it takes for "
          "intervals without writes")
+
+DROPPED = "past intervals that may have gone read-write and matter, which begin before --from and so aren't whole in the script"
+BEFORE = "epochs before --from, of whose intervals the script knows what queries list alone"
 
 Log = List[Tuple[Version, str, str]]
 
@@ -90,8 +94,13 @@ class Story:
         """The epoch of the first map, or that of an earlier interval that matters still."""
         found = self.snapshots[0].epoch
         for query in self.queries:
-            les = max((info.history_les for info in query.infos), default=0)
-            found = min([found, query.epoch, *(past.first for past in query.past if past.last >= les)])
+            mattering = [past for past in query.past if past.last >= query.les()]
+            found = min([found, query.epoch, *(past.first for past in mattering)])
+            for past in mattering:
+                if past.first < self.wanted.since:
+                    self.notes.tell(DROPPED, f"{group_text(query.group)} in epochs {past.first} to {past.last}")
+        if min(found, *self.dumps.maps) < self.wanted.since:
+            self.notes.tell(BEFORE, f"those before {self.wanted.since}")
         return max(found, self.wanted.since, 1)
 
     # Reports
@@ -106,10 +115,18 @@ class Story:
                 if late.stamp > asked.get(info.group, 0):
                     self.notes.tell(STATS, group_text(info.group))
                     found.setdefault((late.group, late.member, late.stamp), late)
+        for info in self.stopped():
+            found.setdefault((info.group, info.member, info.stamp), info)
         found = {key: self.without_log(info) for key, info in found.items()}
         last, devices = self.snapshots[-1], self.devices()
         kept = (info for info in found.values() if tell_faults(info, last.pools, devices, last.epoch, self.notes))
         return sorted((info for info in kept if info.stamp >= self.first), key=lambda info: (info.stamp, info.group, info.member))
+
+    def stopped(self) -> Iterator[Info]:
+        """The infos of stopped devices, as of the last epoch that each names, so that none counts as heard."""
+        for osd, node in self.dumps.infos:
+            info = read_stopped(node, osd)
+            yield info._replace(stamp=max(latest_of(info), self.first))
 
     def without_log(self, info: Info) -> Info:
         """The info as it is carried: of a group that Ceph calls active without a log, since nobody has to see it."""

@@ -2,7 +2,7 @@
 
 from typing import Any, Dict, Iterable, Optional, Sequence
 
-from .reasons import Reasons, together
+from .reasons import Reasons, epochs_text, sets_text, together
 from .steps import Pool, Step
 
 
@@ -53,3 +53,22 @@ def behind(view: Dict[str, Any], pool: Pool) -> str:
         elif count:
             lacks.append(f"{name} lacks {count} object{'s' if count > 1 else ''}")
     return ", ".join(lacks) or "all who were heard have all objects"
+
+
+# What ends it
+
+
+def ending(why: Reasons) -> str:
+    """Which devices to start; empty where nothing that is down blocks the group."""
+    if not why.blocking:
+        return ""
+    head = "What ends Down" if why.verdict == "Down" else "It would be Down, too; what ends that"
+    return f"{head}: start {sets_text(why.starts)}" if why.starts["sets"] else f"{head}: no start does"
+
+
+def lost_text(why: Reasons) -> str:
+    """Which devices to declare lost, where nothing else is left."""
+    if not why.losses["sets"]:
+        return ""
+    return (f"Last resort, with no way back: declare lost {sets_text(why.losses)}, which gives up what was written in "
+            f"{epochs_text(why.blocking, why.epochs)} at least")

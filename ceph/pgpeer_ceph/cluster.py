@@ -1,0 +1,154 @@
+"""A cluster as a folder keeps it: what Ceph said of its groups, the script of its dumps, and what the program says of that."""
+
+import argparse
+import json
+from typing import Any, Dict, Iterable, Iterator, List, NamedTuple, Optional, Set, Tuple
+
+from . import script
+from .epochs import Epochs
+from .folder import Dumps, read_folder, version_of
+from .maps import Group, Places, group_text, places_of, read_group
+from .nodes import Node, Unusable
+from .notes import Notes
+from .numbers import pools_of
+from .parts import Parts
+from .reasons import Reasons, explained
+from .reports import peering_of
+from .sets import stats_of
+from .steps import Pool, View, answer_of, streamed
+
+SERVES = ("Serve", "NeedUpThru")  # the second passes with the next map
+
+
+class Said(NamedTuple):
+    """What Ceph said last of a group."""
+
+    epoch: int
+    state: str
+    up: Places
+    acting: Places
+    blocked_by: List[int]
+    is_query: bool
+
+    def is_active(self) -> bool:
+        words = self.state.split("+")
+        return "active" in words and "stale" not in words
+
+
+def said_of(dumps: Dumps) -> Dict[Group, Said]:
+    """What Ceph said last of each group; of the same epoch a query."""
+    found: Dict[Group, Said] = {}
+    for dump in dumps.stats:
+        for stat in stats_of(dump):
+            take_said(found, read_group(stat.key("pgid")), said_by(stat, stat.count_of("reported_epoch"), [], False))
+    for query in dumps.queries:
+        peering = peering_of(query)
+        blocked = [it.key("osd").whole() for it in peering.items_of("peering_blocked_by")] if peering else []
+        take_said(found, read_group(query.key("info").key("pgid")), said_by(query, query.key("epoch").count(), blocked, True))
+    return found
+
+
+def said_by(node: Node, epoch: int, blocked: List[int], is_query: bool) -> Said:
+    return Said(epoch, node.key("state").text(), places_of(node.key("up")), places_of(node.key("acting")), blocked, is_query)
+
+
+def take_said(found: Dict[Group, Said], group: Group, said: Said) -> None:
+    if group not in found or said.epoch >= found[group].epoch:
+        found[group] = said
+
+
+class Cluster:
+    """What a folder keeps of a cluster, with the script of it. Groups are named as Ceph names them."""
+
+    def __init__(self, folder: str, program: str, named: Iterable[Group] = ()):
+        self.folder, self.program, self.notes = folder, program, Notes()
+        dumps = read_folder([folder], self.notes)
+        made = script.history_of(dumps, options_of(folder, named), self.notes)
+        self.numbers, self.epochs = made.numbers, made.epochs or Epochs()
+        self.parts = Parts(made.lines)
+        self.said = said_of(dumps)
+        self.last, self.uses = dumps.maps[max(dumps.maps)], dumps.uses
+        trees = [version for version in dumps.trees if version <= version_of(self.last)]
+        self.tree: Optional[Node] = dumps.trees[max(trees)] if trees else None
+        counts = pools_of(self.last)
+        self.groups = [(pool, pg) for pool, count in sorted(counts.items()) for pg in range(count)]
+        self.check_named(named)
+
+    def check_named(self, named: Iterable[Group]) -> None:
+        for group in named:
+            if group not in self.carried():
+                raise Unusable(f"{self.folder} has no group {group_text(group)}")
+
+    def carried(self) -> Set[Group]:
+        """The groups that the script has."""
+        if self.numbers.pools:
+            return set(self.numbers.scripts)
+        return {(pool, pg) for pool, count in self.parts.counts().items() for pg in range(count)}
+
+    def in_script(self, group: Group) -> Group:
+        return self.numbers.in_script(group)
+
+    def pool(self, group: Group) -> Pool:
+        return self.parts.pool(self.in_script(group))
+
+    def devices(self) -> Dict[int, Dict[str, Any]]:
+        """What the last map says of each device."""
+        return {it.key("osd").whole(): it.value for it in self.last.key("osds").items()}
+
+    # What the program says
+
+    def views(self, groups: Iterable[Group], more: Iterable[str] = (), part: bool = True) -> Dict[Group, View]:
+        """What the program says of groups at the end of the script, after more lines, without intervals that play no part.
+        Epochs and numbers are the script's."""
+        asked = [self.in_script(group) for group in groups]
+        added = list(more)
+        lines = [*(self.parts.of(asked) if part else self.parts.whole()), *added]
+        found, count = {}, 0
+        for count, line in enumerate(streamed(self.program, with_questions(lines, asked)), 1):
+            if count > len(lines):
+                view = slim(answer_of(line, self.program))
+                if "ok" in view:
+                    found[self.numbers.in_ceph(asked[count - len(lines) - 1])] = view
+            elif line.startswith(b'{"code":'):
+                self.take_refused(answer_of(line, self.program), lines[count - 1], count > len(lines) - len(added))
+        if count != len(lines) + len(asked):
+            raise Unusable(f"{self.program} gave {count} answers to {len(lines) + len(asked)} lines")
+        return found
+
+    def take_refused(self, answer: Dict[str, Any], line: str, is_added: bool) -> None:
+        """Tells of a line that the program refused."""
+        told = f"{answer.get('refused')} of {line[:80]}"
+        if is_added:
+            raise Unusable(f"{self.program} refused what was to be tried: {told}")
+        self.notes.tell("lines of the script that the program refused", told)
+
+    def reasons(self, group: Group) -> Reasons:
+        """Why a group doesn't serve, in Ceph's epochs."""
+        own = self.in_script(group)
+        return explained(self.program, self.parts.of([own]), group_text(own), self.epochs)
+
+    def unheard(self, group: Group, view: View) -> List[Tuple[int, int]]:
+        """The members that a group waits to hear from."""
+        return self.parts.unheard(self.in_script(group), view)
+
+
+def options_of(folder: str, named: Iterable[Group]) -> argparse.Namespace:
+    """The options of the verb `script` for a folder, as they are where nothing is said."""
+    verbs = argparse.ArgumentParser().add_subparsers()
+    script.add_to(verbs)
+    words = [word for group in named for word in ("--pg", group_text(group))]
+    options: argparse.Namespace = verbs.choices["script"].parse_args([*words, "--", folder])
+    return options
+
+
+def with_questions(lines: List[str], groups: List[Group]) -> Iterator[str]:
+    yield from lines
+    for group in groups:
+        yield json.dumps({"op": "ask", "pg": list(group)})
+
+
+def slim(view: View) -> View:
+    """A view with those of its past intervals alone that may have gone read-write and matter, and how many were before."""
+    wrote = [it for it in view.get("intervals", ()) if it["rw"]]
+    kept = [it for it in wrote if it["last"] >= view["les"]]
+    return {**view, "intervals": kept, "settled": len(wrote) - len(kept)}
