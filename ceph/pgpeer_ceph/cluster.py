@@ -2,7 +2,7 @@
 
 import argparse
 import json
-from typing import Any, Dict, Iterable, Iterator, List, NamedTuple, Optional, Set, Tuple
+from typing import Any, Callable, Dict, Iterable, Iterator, List, NamedTuple, Optional, Set, Tuple
 
 from . import script
 from .epochs import Epochs
@@ -11,11 +11,13 @@ from .maps import Group, Places, group_text, places_of, read_group
 from .nodes import Node, Unusable
 from .notes import Notes
 from .numbers import pools_of
-from .parts import Parts
+from .parts import Part, Parts
 from .reasons import Reasons, explained
 from .reports import peering_of
 from .sets import stats_of
 from .steps import Pool, View, answer_of, streamed
+
+Added = Callable[[List[Group], Part], List[str]]  # the lines that are added for some groups of the script
 
 SERVES = ("Serve", "NeedUpThru")  # the second passes with the next map
 
@@ -97,22 +99,30 @@ class Cluster:
 
     # What the program says
 
-    def views(self, groups: Iterable[Group], more: Iterable[str] = (), part: bool = True) -> Dict[Group, View]:
-        """What the program says of groups at the end of the script, after more lines, without intervals that play no part.
-        Epochs and numbers are the script's."""
+    def all_views(self) -> Dict[Group, View]:
+        """What the program says of all groups that the script has, at its end."""
+        asked = sorted(self.in_script(group) for group in self.carried())
+        return self.answered(list(self.parts.whole()), [], {group: group for group in asked})
+
+    def views(self, groups: Iterable[Group], more: Optional[Added] = None) -> Dict[Group, View]:
+        """What the program says of some groups at the end of the script, after more lines."""
         asked = [self.in_script(group) for group in groups]
-        added = list(more)
-        lines = [*(self.parts.of(asked) if part else self.parts.whole()), *added]
-        found, count = {}, 0
-        for count, line in enumerate(streamed(self.program, with_questions(lines, asked)), 1):
-            if count > len(lines):
+        part = self.parts.of(asked)
+        return self.answered(part.lines, more(asked, part) if more else [], part.names)
+
+    def answered(self, lines: List[str], added: List[str], names: Dict[Group, Group]) -> Dict[Group, View]:
+        """The views of groups, without intervals that play no part. Epochs are the script's."""
+        asked, found, count, first = list(names), {}, 0, len(lines) + len(added)
+        for count, line in enumerate(streamed(self.program, with_questions([*lines, *added], names.values())), 1):
+            if count > first:
                 view = slim(answer_of(line, self.program))
                 if "ok" in view:
-                    found[self.numbers.in_ceph(asked[count - len(lines) - 1])] = view
+                    found[self.numbers.in_ceph(asked[count - first - 1])] = view
             elif line.startswith(b'{"code":'):
-                self.take_refused(answer_of(line, self.program), lines[count - 1], count > len(lines) - len(added))
-        if count != len(lines) + len(asked):
-            raise Unusable(f"{self.program} gave {count} answers to {len(lines) + len(asked)} lines")
+                own = count <= len(lines)
+                self.take_refused(answer_of(line, self.program), lines[count - 1] if own else added[count - 1 - len(lines)], not own)
+        if count != first + len(asked):
+            raise Unusable(f"{self.program} gave {count} answers to {first + len(asked)} lines")
         return found
 
     def take_refused(self, answer: Dict[str, Any], line: str, is_added: bool) -> None:
@@ -125,7 +135,8 @@ class Cluster:
     def reasons(self, group: Group) -> Reasons:
         """Why a group doesn't serve, in Ceph's epochs."""
         own = self.in_script(group)
-        return explained(self.program, self.parts.of([own]), group_text(own), self.epochs)
+        part = self.parts.of([own])
+        return explained(self.program, part.lines, group_text(part.names[own]), self.epochs)
 
     def unheard(self, group: Group, view: View) -> List[Tuple[int, int]]:
         """The members that a group waits to hear from."""
@@ -141,7 +152,7 @@ def options_of(folder: str, named: Iterable[Group]) -> argparse.Namespace:
     return options
 
 
-def with_questions(lines: List[str], groups: List[Group]) -> Iterator[str]:
+def with_questions(lines: List[str], groups: Iterable[Group]) -> Iterator[str]:
     yield from lines
     for group in groups:
         yield json.dumps({"op": "ask", "pg": list(group)})

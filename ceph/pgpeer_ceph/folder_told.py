@@ -57,7 +57,7 @@ def is_told(cluster: Cluster, group: Group, view: Optional[View]) -> bool:
 def whole_text(cluster: Cluster) -> Iterator[str]:
     """The table of all groups that aren't active, which devices block most, and what wasn't carried."""
     carried = cluster.carried()
-    views = cluster.views([group for group in cluster.groups if group in carried], part=False)
+    views = cluster.all_views()
     told = [group for group in cluster.groups if is_told(cluster, group, views.get(group))]
     left = f", {len(carried):,} of them in the script" if len(carried) < len(cluster.groups) else ""
     epoch = cluster.last.key("epoch").count()

@@ -27,6 +27,7 @@ class Parts:
         self.sizes: Dict[int, Tuple[int, int]] = {}
         self.up: Dict[int, int] = {}  # the devices that are up, with the epochs in which they booted
         self.known: Set[int] = set()  # the devices that exist
+        self.has_tree = False
         for line in lines:
             if line["op"] == "inc":
                 self.take(line)
@@ -37,6 +38,7 @@ class Parts:
         inc = {key: value for key, value in line.items() if key != "temp"}
         temps = {(entry[0], entry[1]): entry for entry in line.get("temp", ())}
         self.fronts.append(Front(inc, compact(inc), temps, {}))
+        self.has_tree = self.has_tree or bool(line.get("crush"))
         for pool in line.get("pools", ()):
             self.made[pool["id"]] = pool
         for pool, size, min_size in line.get("sizes", ()):
@@ -68,12 +70,13 @@ class Parts:
     def whole(self) -> Iterator[str]:
         """All lines."""
         for front in self.fronts:
-            yield from lines_of(front, front.temps, front.reports)
+            yield front.text[:-1] + f',"temp":{compact(list(front.temps.values()))}}}' if front.temps else front.text
+            for reports in front.reports.values():
+                yield from map(compact, reports)
 
-    def of(self, groups: Iterable[Group]) -> List[str]:
-        """The lines that concern some groups."""
-        wanted = list(groups)
-        return [line for front in self.fronts for line in lines_of(front, wanted, wanted)]
+    def of(self, groups: Iterable[Group]) -> "Part":
+        """The script of some groups."""
+        return Part(self, list(groups))
 
     def lines(self, groups: Iterable[Group]) -> Iterator[Line]:
         """The lines that concern some groups, as values."""
@@ -106,9 +109,35 @@ class Parts:
         return [(osd, slot) for osd, slot in view["probe"] if (osd, slot) not in heard]
 
 
-def lines_of(front: Front, temps: Iterable[Group], reports: Iterable[Group]) -> Iterator[str]:
-    """The lines of a front with the pg_temp lists and the reports of some groups."""
-    lists = [front.temps[group] for group in temps if group in front.temps]
-    yield front.text[:-1] + f',"temp":{compact(lists)}}}' if lists else front.text
-    for group in reports:
-        yield from map(compact, front.reports.get(group, ()))
+class Part:
+    """The script of some groups. Without a tree a group's number plays no part, and then they have others here, so that the
+    program doesn't follow groups that nobody asks for."""
+
+    def __init__(self, parts: Parts, groups: List[Group]):
+        self.names = {group: group for group in groups}
+        pools = {pool for pool, _ in groups}
+        self.counts = {pool: parts.made[pool]["pg_num"] for pool in pools}
+        if not parts.has_tree:
+            self.counts = dict.fromkeys(pools, 0)
+            for group in groups:
+                self.names[group] = group[0], self.counts[group[0]]
+                self.counts[group[0]] += 1
+        self.lines = [line for front in parts.fronts for line in self.lines_of(front)]
+
+    def lines_of(self, front: Front) -> Iterator[str]:
+        """The lines of a front, as far as they concern the groups."""
+        temps = [[*self.names[group], front.temps[group][2]] for group in self.names if group in front.temps]
+        inc = front.inc
+        if "pools" in inc or "sizes" in inc:
+            made = [{**pool, "pg_num": self.counts[pool["id"]]} for pool in inc.get("pools", ()) if pool["id"] in self.counts]
+            sizes = [size for size in inc.get("sizes", ()) if size[0] in self.counts]
+            inc = {key: value for key, value in {**inc, "pools": made, "sizes": sizes}.items() if value}
+        text = front.text if inc is front.inc else compact(inc)
+        yield text[:-1] + f',"temp":{compact(temps)}}}' if temps else text
+        for group in self.names:
+            for line in front.reports.get(group, ()):
+                yield self.named(line)
+
+    def named(self, line: Line) -> str:
+        """A report of a group, under its number here."""
+        return compact({**line, "pg": list(self.names[tuple(line["pg"])])})

@@ -1,0 +1,189 @@
+"""The verb `plan`: which devices to start, in which order, what each frees, and what stays."""
+
+import argparse
+import collections
+import concurrent.futures
+import os
+from typing import Any, Dict, Iterator, List, Set, Tuple
+
+from .buckets import hosts_of
+from .cluster import SERVES, Cluster
+from .folder_told import caveats, table
+from .maps import Group, group_text
+from .nodes import compact
+from .output import write
+from .program import option_of_program
+from .rules import members_of, word_of
+from .starts import Need, Plan, Start, need_of, plan_of
+from .steps import View
+from .words import osds_text
+
+MOST_GROUPS = 8  # that a step names
+MOST_STAYING = 200
+ABOUT = """\
+Tells from a FOLDER that fetch filled which devices to start so that groups are no longer Down or without a primary: a small set,
+each step the one that frees most, and its size beside a number below which no set can be. No step declares a device lost. Then it
+tells which groups stay as they are, and what each waits for. A group that is freed hears its members first, and may wait for
+backfill before it is active. Nothing is started: the steps are for you to take, `systemctl start ceph-osd@ID` on the host that is
+named, or `ceph orch daemon start osd.ID`.
+
+Status 0: the plan was written. Status 2: the command line or the input is wrong.
+"""
+
+
+class Planned:
+    """A cluster, the groups that don't serve, and what to start for them."""
+
+    def __init__(self, cluster: Cluster):
+        self.cluster, carried = cluster, cluster.carried()
+        self.left_out = [group for group in cluster.groups if group not in carried]
+        self.views = {group: view for group, view in cluster.all_views().items() if view["verdict"] not in SERVES}
+        self.needs = self.needs_of([group for group, view in self.views.items() if view["verdict"] in ("Down", "NoPrimary")])
+        self.plan: Plan = plan_of(self.needs)
+        self.then = self.views_then()
+
+    def needs_of(self, groups: List[Group]) -> Dict[Group, Need]:
+        """What each group needs, where a start helps; groups whose intervals are alike are asked once."""
+        alike: Dict[Any, List[Group]] = {}
+        for group in groups:
+            alike.setdefault(self.likeness(group), []).append(group)
+        with concurrent.futures.ThreadPoolExecutor(os.cpu_count() or 1) as pool:
+            found = list(pool.map(self.need, (same[0] for same in alike.values())))
+        return {group: need for same, need in zip(alike.values(), found) for group in same if need.sets}
+
+    def likeness(self, group: Group) -> Any:
+        """What decides which starts help: verdict, code, and the intervals that matter with their devices."""
+        view = self.views[group]
+        past = tuple((it["first"], it["last"], tuple(it["acting"])) for it in view["intervals"])
+        return view["verdict"], self.cluster.pool(group)._replace(groups=repr(self.cluster.pool(group).groups)), past
+
+    def need(self, group: Group) -> Need:
+        """What the program names; of a group without a primary that nothing blocks each device that served it last."""
+        view = self.views[group]
+        need = need_of(self.cluster.reasons(group))
+        if need.sets or view["verdict"] != "NoPrimary":
+            return need
+        return Need(frozenset(frozenset([osd]) for osd in self.last_members(view)), False)
+
+    def last_members(self, view: View) -> List[int]:
+        """The devices that are down and stood in the last interval that may have gone read-write."""
+        last = view["intervals"][-1]["acting"] if view["intervals"] else []
+        return sorted(osd for osd in last if osd is not None and self.cluster.parts.is_down(osd))
+
+    def views_then(self) -> Dict[Group, View]:
+        """What the program says of the groups once all devices of the plan have booted."""
+        osds = sorted(self.plan.osds())
+        if not osds:
+            return {}
+        inc = {"op": "inc", "epoch": self.cluster.parts.epoch() + 1, "up": osds}
+        return self.cluster.views(self.needs, lambda *_: [compact(inc)])
+
+    def staying(self) -> List[Group]:
+        """The groups that no step frees, by what the program says after all steps."""
+        held = {group for group, view in self.then.items() if view["verdict"] in ("Down", "NoPrimary")}
+        return [group for group in self.views if group not in self.needs or group in held]
+
+
+def lines_of(planned: Planned) -> Iterator[str]:
+    cluster, counts = planned.cluster, collections.Counter(view["verdict"] for view in planned.views.values())
+    told = ", ".join(f"{verdict} {count:,}" for verdict, count in counts.most_common()) or "none"
+    yield f"Groups that don't serve in epoch {cluster.last.key('epoch').count()}: {len(planned.views):,} of {len(cluster.groups):,} ({told})"
+    yield from steps_text(planned)
+    yield from staying_text(planned)
+    if planned.left_out:
+        yield f"not in the script: {len(planned.left_out):,} groups (--pg carries one)"
+    yield from caveats(cluster.notes, [], True)
+
+
+def steps_text(planned: Planned) -> Iterator[str]:
+    plan = planned.plan
+    if not plan.steps:
+        yield "No start of a device frees a group that is Down or without a primary."
+        return
+    yield f"Starting {count_of(len(plan.osds()), 'device')} frees {count_of(len(planned.needs), 'group')}; {bound_text(plan)}"
+    yield ""
+    yield from table([("step", "start", "host", "down since", "frees", "left", "groups"), *rows_of(planned)])
+    after = collections.Counter(view["verdict"] for view in planned.then.values())
+    yield ""
+    yield "Then, before any of them has reported: " + ", ".join(f"{verdict} {count:,}" for verdict, count in after.most_common())
+    yield "A freed group hears its members first; one without complete copies enough stays peered until backfill is done."
+
+
+def bound_text(plan: Plan) -> str:
+    if not plan.is_least_known:
+        return f"at least {plan.least} {'are' if plan.least != 1 else 'is'} needed by the groups whose ways are all listed"
+    return "no fewer do" if plan.least == len(plan.osds()) else f"at least {plan.least} {'are' if plan.least != 1 else 'is'} needed"
+
+
+def count_of(count: int, word: str) -> str:
+    return f"{count:,} {word}{'' if count == 1 else 's'}"
+
+
+def rows_of(planned: Planned) -> Iterator[Tuple[str, ...]]:
+    hosts, devices, left = hosts_of(planned.cluster), planned.cluster.devices(), len(planned.needs)
+    for number, step in enumerate(planned.plan.steps, 1):
+        left -= len(step.frees)
+        names = ", ".join(f"osd.{osd}" for osd in step.osds)
+        on = ", ".join(sorted({hosts.get(osd, "-") for osd in step.osds}))
+        since = ", ".join(str(devices.get(osd, {}).get("down_at", "?")) for osd in step.osds)
+        yield str(number), names, on, f"epoch {since}", f"{len(step.frees):,}", f"{left:,}", groups_text(step)
+
+
+def groups_text(step: Start) -> str:
+    named = " ".join(group_text(group) for group in step.frees[:MOST_GROUPS])
+    return named + (" .." if len(step.frees) > MOST_GROUPS else "")
+
+
+# What stays
+
+
+def staying_text(planned: Planned) -> Iterator[str]:
+    staying = planned.staying()
+    if not staying:
+        return
+    yield ""
+    yield f"No step frees {count_of(len(staying), 'group')}:"
+    rows = [staying_row(planned, group) for group in staying[:MOST_STAYING]]
+    yield from table([("PG", "here", "Ceph", "waits for"), *rows])
+    if len(staying) > MOST_STAYING:
+        yield f".. and {len(staying) - MOST_STAYING:,} more"
+
+
+def staying_row(planned: Planned, group: Group) -> Tuple[str, ...]:
+    said, view = planned.cluster.said.get(group), planned.views[group]
+    return group_text(group), view["verdict"], word_of(said.state) if said else "unknown", waits_for(planned, group, view)
+
+
+def waits_for(planned: Planned, group: Group, view: View) -> str:
+    """What a group that no step frees waits for."""
+    cluster, pool, verdict = planned.cluster, planned.cluster.pool(group), view["verdict"]
+    served = osds_text(planned.last_members(view))
+    if verdict == "Waiting":
+        return "to hear " + osds_text(osd for osd, _ in cluster.unheard(group, view))
+    if verdict in ("Down", "NoPrimary"):
+        return "devices that are gone, or that can't be named" if verdict == "Down" else "any device of its own"
+    if verdict == "NeedLog":
+        return "nothing, in Ceph: its log isn't in the folder"
+    said = cluster.said.get(group)
+    up: Set[Tuple[int, int]] = members_of(said.up, pool) if said else set()
+    if verdict == "Short" and len(up) >= pool.min_size and pool.are_enough(slot for _, slot in up):
+        return "backfill to " + osds_text(osd for osd, _ in up)
+    what = "a complete copy" if verdict == "Incomplete" else "another device"
+    return what + (f"; {served} served it last and {'is' if ' ' not in served else 'are'} down" if served else "")
+
+
+# The verb
+
+
+def run(options: argparse.Namespace) -> int:
+    planned = Planned(Cluster(options.folder, options.program))
+    write("".join(f"{line}\n" for line in lines_of(planned)))
+    return 0
+
+
+def add_to(verbs: Any) -> None:
+    parser = verbs.add_parser("plan", help="which devices to start, in which order, and what each frees", description=ABOUT,
+                              formatter_class=argparse.RawDescriptionHelpFormatter)
+    parser.add_argument("folder", metavar="FOLDER", help="what fetch filled")
+    option_of_program(parser)
+    parser.set_defaults(run=run)
