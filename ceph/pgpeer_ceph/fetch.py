@@ -3,15 +3,17 @@
 import argparse
 import concurrent.futures
 import time
-from typing import Any, Callable, Dict, Iterable, List, Optional
+from typing import Any, Callable, Dict, Iterable, List, Optional, Union
 
-from .calls import NoAnswer, ceph_of
+from .calls import Ceph, NoAnswer, ceph_of
 from .fetched import FetchedMaps, Folder
+from .librados import Connection, connected
 from .maps import group_text, named_group, read_group
 from .nodes import MOST, Node, Unusable
 from .notes import Notes
 from .output import tell
 from .progress import Progress
+from .reports import is_active
 from .sets import stats_of
 
 QUERY_SECONDS, QUERY_TRIES = 15, 2
@@ -20,8 +22,8 @@ UNASKED = "reports of groups that weren't asked before the time was up (--second
 LED_BY_NOBODY = "reports of groups without a primary, which nobody can give"
 ABOUT = """\
 Keeps in a folder what `script` reads: what `ceph pg dump` says, the queries of groups, those that aren't active first, the use of
-devices, and then maps, trees and where groups lie, up to the last epoch that a query names. It changes nothing in the cluster.
-Each file is written whole as it comes, and a second call goes on where the first one ended. What fails is tried again; what is
+devices, and then maps, trees and where groups lie, up to the last epoch that a report names. It changes nothing in the cluster.
+Where librados is there (Debian's python3-rados), one connection serves all calls, else commands are called. Each file is written whole as it comes, and a second call goes on where the first one ended. What fails is tried again; what is
 lacking in the end is told, and kept in the folder for `script` to tell.
 
 Status 0: what there was is in the folder. Status 2: the command line is wrong, there is no command of Ceph's, no map was fetched,
@@ -29,16 +31,22 @@ or a write failed.
 """
 
 
+def best_of(ceph: Ceph) -> Union[Ceph, Connection]:
+    """By librados where that is there, else by commands."""
+    return connected(ceph) or ceph
+
+
 class Fetch:
     """A folder as it is filled from a cluster."""
 
     def __init__(self, options: argparse.Namespace):
-        self.options, self.ceph, self.notes, self.progress = options, ceph_of(options.ceph), Notes(), Progress()
+        self.options, self.notes, self.progress = options, Notes(), Progress()
+        self.ceph = best_of(ceph_of(options.ceph))
         self.folder = Folder(options.folder)
         self.wanted = [group_text(named_group(words)) for words in options.pg]
         self.stats: Optional[Dict[str, Node]] = None
         self.unasked: Dict[str, None] = {}
-        self.named = 0  # the last epoch that a query names
+        self.named = 0  # the last epoch that a report names
 
     def run(self) -> None:
         try:
@@ -47,6 +55,7 @@ class Fetch:
             maps = FetchedMaps(self.ceph, self.folder, self.notes, self.side_by_side)
             maps.fetch(self.options.since, min(self.options.until, self.named or MOST))
             maps.fetch_trees()
+            maps.fetch_last_map()
             if not self.options.no_groups:
                 maps.fetch_sets()
         finally:
@@ -89,7 +98,8 @@ class Fetch:
         groups = self.groups()
         self.unasked = dict.fromkeys(groups)
         epochs = self.side_by_side("queries", lambda group: self.query(group, end), groups)
-        self.named = max(epochs, default=0)
+        reported = (stat.count_of("reported_epoch") for stat in (self.stats or {}).values() if is_active(stat.key("state").text()))
+        self.named = max([*epochs, *reported], default=0)
 
     def groups(self) -> List[str]:
         """The groups to ask, those that aren't active first, then those that aren't clean."""
@@ -170,7 +180,7 @@ def add_to(verbs: Any) -> None:
     parser = verbs.add_parser("fetch", help="keep a cluster's maps and reports in a folder", description=ABOUT,
                               formatter_class=argparse.RawDescriptionHelpFormatter)
     parser.add_argument("folder", metavar="FOLDER", help="the folder, which is made where it isn't there")
-    parser.add_argument("--ceph", default="ceph", metavar="WORDS", help="how ceph is called, as 'cephadm shell -- ceph'")
+    parser.add_argument("--ceph", default="ceph", metavar="WORDS", help="how ceph is called, as 'ceph -n client.look' or 'cephadm shell -- ceph'")
     parser.add_argument("--pg", action="append", default=[], metavar="PG", help="query this group, and others only where they are named")
     parser.add_argument("--pool", type=int, action="append", default=[], metavar="ID", help="query groups of this pool alone")
     parser.add_argument("--jobs", type=int, default=4, metavar="N", help="how many commands run side by side (4)")

@@ -4,9 +4,11 @@ import contextlib
 import os
 import re
 import shutil
-from typing import Any, Callable, Dict, List, Optional
+from typing import Any, Callable, Dict, List, Optional, Union
 
 from .calls import Ceph, NoAnswer, printed, tried
+from .folder import BINARY
+from .librados import Connection
 from .nodes import Node, Unusable, compact, load, parsed
 from .notes import Notes
 from .output import write
@@ -51,7 +53,7 @@ class Folder:
 class FetchedMaps:
     """The maps of a cluster, with their trees and with where groups lie."""
 
-    def __init__(self, ceph: Ceph, folder: Folder, notes: Notes, side_by_side: Callable[..., List[Any]]):
+    def __init__(self, ceph: Union[Ceph, Connection], folder: Folder, notes: Notes, side_by_side: Callable[..., List[Any]]):
         self.ceph, self.folder, self.notes, self.side_by_side = ceph, folder, notes, side_by_side
         self.versions: Dict[int, int] = {}  # of trees, by epoch
         self.fsid = self.known_fsid()
@@ -130,7 +132,7 @@ class FetchedMaps:
 
     def fetch_tree(self, epoch: int) -> None:
         """Keeps the tree of an epoch, by crushtool."""
-        if not shutil.which("crushtool"):
+        if not self.tool("crushtool"):
             self.notes.tell("trees of earlier epochs (install crushtool, of Debian's ceph-base)", f"epoch {epoch}")
             return
         try:
@@ -139,13 +141,37 @@ class FetchedMaps:
         except NoAnswer as fault:
             self.notes.tell("trees of earlier epochs", f"epoch {epoch}: {fault}")
 
+    def fetch_last_map(self) -> None:
+        """Keeps the last map as Ceph keeps it, by which osdmaptool places groups."""
+        last = max(self.folder.epochs(), default=0)
+        old = [name for name in os.listdir(self.folder.path) if name.endswith(BINARY)]
+        if not last or f"{last}{BINARY}" in old:
+            return
+        try:
+            write(self.ceph.binary("osd", "getmap", str(last)), self.folder.at(f"{last}{BINARY}"))
+        except NoAnswer as fault:
+            self.notes.tell("the last map for osdmaptool", str(fault))
+        else:
+            for name in old:
+                os.unlink(self.folder.at(name))
+
+    def tool(self, name: str) -> List[str]:
+        """How a tool is called: on this host, or in the container in which `ceph` is, which then has the folder under its own
+        name; no word where it isn't there."""
+        if shutil.which(name):
+            return [name]
+        words, path = self.ceph.words, os.path.abspath(self.folder.path)
+        if "--" not in words or not any(os.path.basename(word) == "cephadm" for word in words):
+            return []
+        return [*words[: words.index("--")], "--mount", f"{path}:{path}", "--", name]
+
     def by_tool(self, words: Any, tool: List[str]) -> str:
         """What a tool prints of what `ceph` gives; the tool's empty word is the file."""
-        made, path = self.ceph.binary(*words), self.folder.at(f".{words[-1]}.{words[1]}")
+        made, path = self.ceph.binary(*words), os.path.abspath(self.folder.at(f".{words[-1]}.{words[1]}"))
         try:
             with open(path, "wb") as file:
                 file.write(made)
-            return tried(lambda: printed([word or path for word in tool])).decode(errors="replace")
+            return tried(lambda: printed([*self.tool(tool[0]), *(word or path for word in tool[1:])])).decode(errors="replace")
         finally:
             with contextlib.suppress(FileNotFoundError):
                 os.unlink(path)
@@ -155,7 +181,7 @@ class FetchedMaps:
     def fetch_sets(self) -> None:
         """Keeps where groups lie in each epoch, for trees that a script can't have."""
         lacking = [epoch for epoch in sorted(self.versions) if not os.path.isfile(self.folder.at(f"{epoch}.groups.txt"))]
-        if lacking and not shutil.which("osdmaptool"):
+        if lacking and not self.tool("osdmaptool"):
             self.notes.tell("where groups lie in each epoch (install osdmaptool, of Debian's ceph-osd)", f"{len(lacking)} epochs")
             return
         self.side_by_side("where groups lie", self.fetch_sets_of, lacking)

@@ -10,7 +10,7 @@ from .nodes import Unusable
 from .notes import MOST_THINGS, Notes, one_line
 from .rules import rule_of
 from .steps import History, View
-from .words import osds_text
+from .waits import waits_for
 
 MOST_DEVICES = 12  # that are named below a table
 SHOWN = 3  # things of a cause, in a table
@@ -31,21 +31,13 @@ def table(rows: Sequence[Row]) -> Iterator[str]:
 # All groups
 
 
-def waits_text(cluster: Cluster, group: Group, view: View) -> str:
-    """For which devices a group waits."""
-    if view["blocked_by"]:
-        return "blocked by " + osds_text(view["blocked_by"])
-    unheard = cluster.unheard(group, view) if view["verdict"] == "Waiting" else []
-    return "to hear " + osds_text(osd for osd, _ in unheard) if unheard else ""
-
-
 def row_of(cluster: Cluster, group: Group, view: Optional[View]) -> Row:
     said = cluster.said.get(group)
     theirs = (said.state, str(said.epoch)) if said else ("unknown", "")
     if view is None:
         return group_text(group), *theirs, "not in the script", "", ""
     agree, rule = rule_of(cluster, group, view)
-    return group_text(group), *theirs, view["verdict"], waits_text(cluster, group, view), "" if agree else rule or "no rule says why"
+    return group_text(group), *theirs, view["verdict"], waits_for(cluster, group, view), "" if agree else rule or "no rule says why"
 
 
 def is_told(cluster: Cluster, group: Group, view: Optional[View]) -> bool:

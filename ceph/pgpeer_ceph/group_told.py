@@ -7,6 +7,7 @@ from .epochs import Epochs
 from .reasons import Reasons
 from .rules import members_of, superseded
 from .steps import History, Member, Pool, View
+from .waits import are_enough
 from .words import ending, lost_text, member_text, osds_text
 
 
@@ -97,8 +98,7 @@ def backfill_text(told: Told) -> str:
     if told.view["verdict"] != "Short" or said is None:
         return ""
     up = members_of(said.up, pool)
-    are_enough = len(up) >= pool.min_size and pool.are_enough(slot for _, slot in up)
-    return f"It waits for backfill to {osds_text(osd for osd, _ in up)}, and for no device that is down" if are_enough else ""
+    return f"It waits for backfill to {osds_text(osd for osd, _ in up)}, and for no device that is down" if are_enough(up, pool) else ""
 
 
 def few_text(told: Told) -> str:

@@ -3,7 +3,7 @@
 import os
 import sys
 import tempfile
-from typing import Callable, Optional
+from typing import Callable, Optional, Union
 
 from .nodes import Unusable
 from .notes import one_line
@@ -11,27 +11,31 @@ from .notes import one_line
 COMMAND = "pgpeer-ceph"
 
 
-def write(text: str, path: Optional[str] = None) -> None:
+def write(text: Union[str, bytes], path: Optional[str] = None) -> None:
     """Writes to standard output, to a device or a pipe, or to a file, which is there whole or not at all."""
     if path is None:
-        sys.stdout.write(text)
+        sys.stdout.write(str(text))
         sys.stdout.flush()
         return
     if os.path.exists(path) and not os.path.isfile(path):
-        with open(path, "w", encoding="utf-8") as place:
-            place.write(text)
+        with open(path, "wb") as place:
+            place.write(bytes_of(text))
         return
     path = os.path.realpath(path)
     folder = os.path.dirname(path)
     handle, part = tempfile.mkstemp(prefix=".part-", dir=folder)
     try:
-        with os.fdopen(handle, "w", encoding="utf-8") as file:
-            file.write(text)
+        with os.fdopen(handle, "wb") as file:
+            file.write(bytes_of(text))
         os.chmod(part, 0o644)
         os.replace(part, path)
     except BaseException:
         os.unlink(part)
         raise
+
+
+def bytes_of(text: Union[str, bytes]) -> bytes:
+    return text if isinstance(text, bytes) else text.encode("utf-8")
 
 
 def tell(text: str, tool: str = COMMAND) -> None:

@@ -4,7 +4,7 @@ import argparse
 import collections
 import concurrent.futures
 import os
-from typing import Any, Dict, Iterator, List, Set, Tuple
+from typing import Any, Dict, Iterator, List, Tuple
 
 from .buckets import hosts_of
 from .cluster import SERVES, Cluster
@@ -13,10 +13,10 @@ from .maps import Group, group_text
 from .nodes import compact
 from .output import write
 from .program import option_of_program
-from .rules import members_of, word_of
+from .rules import word_of
 from .starts import Need, Plan, Start, need_of, plan_of
 from .steps import View
-from .words import osds_text
+from .waits import last_members, waits_for
 
 MOST_GROUPS = 8  # that a step names
 MOST_STAYING = 200
@@ -63,12 +63,7 @@ class Planned:
         need = need_of(self.cluster.reasons(group))
         if need.sets or view["verdict"] != "NoPrimary":
             return need
-        return Need(frozenset(frozenset([osd]) for osd in self.last_members(view)), False)
-
-    def last_members(self, view: View) -> List[int]:
-        """The devices that are down and stood in the last interval that may have gone read-write."""
-        last = view["intervals"][-1]["acting"] if view["intervals"] else []
-        return sorted(osd for osd in last if osd is not None and self.cluster.parts.is_down(osd))
+        return Need(frozenset(frozenset([osd]) for osd in last_members(self.cluster, view)), False)
 
     def views_then(self) -> Dict[Group, View]:
         """What the program says of the groups once all devices of the plan have booted."""
@@ -80,7 +75,7 @@ class Planned:
 
     def staying(self) -> List[Group]:
         """The groups that no step frees, by what the program says after all steps."""
-        held = {group for group, view in self.then.items() if view["verdict"] in ("Down", "NoPrimary")}
+        held = {group for group, view in self.then.items() if view["verdict"] == "Down"}
         return [group for group in self.views if group not in self.needs or group in held]
 
 
@@ -151,25 +146,7 @@ def staying_text(planned: Planned) -> Iterator[str]:
 
 def staying_row(planned: Planned, group: Group) -> Tuple[str, ...]:
     said, view = planned.cluster.said.get(group), planned.views[group]
-    return group_text(group), view["verdict"], word_of(said.state) if said else "unknown", waits_for(planned, group, view)
-
-
-def waits_for(planned: Planned, group: Group, view: View) -> str:
-    """What a group that no step frees waits for."""
-    cluster, pool, verdict = planned.cluster, planned.cluster.pool(group), view["verdict"]
-    served = osds_text(planned.last_members(view))
-    if verdict == "Waiting":
-        return "to hear " + osds_text(osd for osd, _ in cluster.unheard(group, view))
-    if verdict in ("Down", "NoPrimary"):
-        return "devices that are gone, or that can't be named" if verdict == "Down" else "any device of its own"
-    if verdict == "NeedLog":
-        return "nothing, in Ceph: its log isn't in the folder"
-    said = cluster.said.get(group)
-    up: Set[Tuple[int, int]] = members_of(said.up, pool) if said else set()
-    if verdict == "Short" and len(up) >= pool.min_size and pool.are_enough(slot for _, slot in up):
-        return "backfill to " + osds_text(osd for osd, _ in up)
-    what = "a complete copy" if verdict == "Incomplete" else "another device"
-    return what + (f"; {served} served it last and {'is' if ' ' not in served else 'are'} down" if served else "")
+    return group_text(group), view["verdict"], word_of(said.state) if said else "unknown", waits_for(planned.cluster, group, view)
 
 
 # The verb

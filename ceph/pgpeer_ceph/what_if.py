@@ -15,6 +15,7 @@ from .plan import count_of
 from .program import option_of_program
 from .rules import members_of
 from .stops import Stop, Stops
+from .waits import are_enough
 from .words import osds_text
 
 ENDS = ("Short", "Down", "NoPrimary")
@@ -102,8 +103,7 @@ def out_text(stops: Stops, stop: Stop) -> Iterator[str]:
     for group in stop.after:
         pool = stops.cluster.pool(group)
         up = members_of(list(sets[group].up), pool) if group in sets else set()
-        are_enough = len(up) >= pool.min_size and pool.are_enough(slot for _, slot in up)
-        (whole if len(up) == pool.size else serving if are_enough else short).append(group)
+        (whole if len(up) == pool.size else serving if are_enough(up, pool) else short).append(group)
     down = [group for group in stop.ended if stop.after[group]["verdict"] == "Down"]
     yield f"Once they are out, after backfill: {len(whole):,} of the touched groups are whole, {len(serving):,} serve with fewer than size"
     yield f"members, {len(short):,} have fewer than min_size{names_of(short)}. Down stays Down{names_of(down)}."

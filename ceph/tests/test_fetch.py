@@ -77,6 +77,14 @@ class Fetch(Room):
             path.write_text(FAKE.format(python=sys.executable, dumps=str(STRAW2), room=str(self.folder)))
             path.chmod(0o755)
 
+    def library(self):
+        """The folder of a library `rados`, of which there is none unless a test makes one."""
+        path = self.folder / "lib/rados.py"
+        if not path.exists():
+            path.parent.mkdir(exist_ok=True)
+            path.write_text("raise ImportError\n")
+        return path.parent
+
     def calls(self):
         """The calls since the last time that this was asked."""
         path = self.folder / "calls"
@@ -85,7 +93,7 @@ class Fetch(Room):
         return found
 
     def run_tool(self, *words):
-        room = {**os.environ, "PATH": str(self.folder / "bin")}
+        room = {**os.environ, "PATH": str(self.folder / "bin"), "PYTHONPATH": str(self.library())}
         return subprocess.run([*TOOL, *map(str, words)], capture_output=True, text=True, env=room)
 
     def fetch(self, *words, since=62):
@@ -106,7 +114,7 @@ class Whole(Fetch):
         told = self.fetch(since=60)
         self.assertEqual(told, "pgpeer-ceph: not fetched: reports of groups that gave no answer: 4.1\n")
         wanted = {f"{epoch}.{kind}" for epoch in range(60, 65) for kind in ("osd.json", "groups.txt")}
-        wanted |= {"60.crush.json", "pgs.json", "df.json", "fetch.json", *(f"{pg}.query.json" for pg in GROUPS[:5])}
+        wanted |= {"60.crush.json", "64.osdmap", "pgs.json", "df.json", "fetch.json", *(f"{pg}.query.json" for pg in GROUPS[:5])}
         self.assertEqual(self.names(), wanted)
         run = self.run_tool("script", "--ask", self.out)
         self.assertEqual(run.returncode, 0, run.stderr)
@@ -123,11 +131,15 @@ class Whole(Fetch):
         self.assertLess(calls.index("ceph osd df tree --format json"), calls.index("ceph report --format json"))
         self.assertTrue(all(call.endswith("--format json") or " osd get" in call for call in calls), calls)
 
-    def test_maps_go_up_to_the_last_epoch_that_a_query_names(self):
+    def test_maps_go_up_to_the_last_epoch_that_a_report_names(self):
         self.commands("ceph")
         for group in GROUPS[:5]:
             query = json.loads((STRAW2 / f"{group}.query.json").read_text())
             (self.folder / f"{group}.query.json").write_text(json.dumps({**query, "epoch": min(query["epoch"], 62)}))
+        dump = json.loads((STRAW2 / "pgs.json").read_text())
+        for stat in dump["pg_map"]["pg_stats"]:
+            stat["reported_epoch"] = 62 if stat["state"].startswith("active") else 64  # of which no info is made
+        (self.folder / "pgs.json").write_text(json.dumps(dump))
         self.fetch("--no-groups")
         self.assertEqual(max(int(name.split(".")[0]) for name in self.names() if name.endswith(".osd.json")), 62)
 
@@ -155,6 +167,106 @@ class Whole(Fetch):
         self.fetch("--ceph", f"{self.folder}/bin/wrap -- ceph", "--no-groups")
         self.assertIn("64.osd.json", self.names())
         self.assertFalse([call for call in self.calls() if " -o " in call])
+
+    def test_tools_in_the_container_of_ceph(self):
+        self.commands("ceph")
+        room = self.folder / "container"
+        room.mkdir()
+        for name in ("crushtool", "osdmaptool"):
+            self.commands(name)
+            (self.folder / "bin" / name).rename(room / name)
+        wrap = self.folder / "bin/cephadm"
+        wrap.write_text(f"""#!/bin/sh
+echo "cephadm $*" >> {self.folder}/calls
+shift
+[ "$1" = --mount ] && shift 2
+shift
+PATH={room}:$PATH exec "$@"
+""")
+        wrap.chmod(0o755)
+        self.fetch("--ceph", "cephadm shell -- ceph")
+        self.assertLessEqual({"62.groups.txt", "63.groups.txt", "64.osdmap"}, self.names())
+        mounted = [call for call in self.calls() if "--mount" in call]
+        self.assertEqual(len(mounted), 3)
+        self.assertIn(f"cephadm shell --mount {self.out}:{self.out} -- osdmaptool {self.out}/.62.getmap", " ".join(mounted))
+        self.assertFalse([name for name in self.names() if name.startswith(".")])
+
+
+RADOS = """\
+import json, os, pathlib
+room, dumps = pathlib.Path({room!r}), pathlib.Path({dumps!r})
+class Rados:
+    def __init__(self, name, clustername):
+        self.told("rados", name, clustername)
+    def told(self, *words):
+        with open(room / "calls", "a") as calls:
+            calls.write(" ".join(map(str, words)) + "\\n")
+    def conf_read_file(self, path):
+        self.told("conf", path)
+    def conf_set(self, option, value):
+        self.told("set", option, value)
+    def connect(self):
+        if (room / "refuse").exists():
+            raise RuntimeError("no monitor")
+    def answer(self, name):
+        path = room / name if (room / name).exists() else dumps / name
+        return 0, path.read_bytes(), ""
+    def pg_command(self, group, text, more):
+        words = json.loads(text)
+        self.told("pg", text)
+        if group == "4.1":
+            raise TimeoutError("no answer of a group")
+        return self.answer(words["pgid"] + ".query.json")
+    def mgr_command(self, text, more):
+        self.told("mgr", text)
+        return self.answer("pgs.json") if "pg dump" in text else (0, b'{{"nodes":[],"stray":[],"summary":{{}}}}', "")
+    def mon_command(self, text, more):
+        words = json.loads(text)
+        self.told("mon", text)
+        if words["prefix"] == "report":
+            return 0, b'{{"osdmap_first_committed":50,"osdmap_last_committed":64}}', ""
+        if words["prefix"] == "osd crush dump":
+            return self.answer("50.crush.json")
+        if words["prefix"] in ("osd getmap", "osd getcrushmap"):
+            return 0, str(words["epoch"]).encode(), ""
+        if words.get("epoch") == 63:
+            return -2, b"", "map was trimmed"
+        return self.answer(str(words.get("epoch", 64)) + ".osd.json")
+"""
+
+
+class ByLibrados(Fetch):
+    def setUp(self):
+        super().setUp()
+        self.commands("osdmaptool", "crushtool")
+        (self.library() / "rados.py").write_text(RADOS.format(room=str(self.folder), dumps=str(STRAW2)))
+
+    def test_one_connection_serves_all_calls(self):
+        told = self.fetch("--ceph", "ceph -n client.look --conf=/x/c.conf -k /x/ring", since=62)
+        calls = self.calls()
+        self.assertEqual(calls[:2], ["rados client.look ceph", "conf /x/c.conf"])
+        self.assertIn("set keyring /x/ring", calls)
+        self.assertIn("set rados_osd_op_timeout 15", calls)
+        self.assertFalse([call for call in calls if call.startswith("ceph ")])
+        self.assertIn('pg {"prefix": "query", "pgid": "3.0", "format": "json"}', calls)
+        self.assertIn('mgr {"prefix": "osd df", "output_method": "tree", "format": "json"}', calls)
+        self.assertIn('mon {"prefix": "osd getmap", "epoch": 62}', calls)
+        self.assertLessEqual({"62.osd.json", "62.groups.txt", "64.osdmap", "62.crush.json", "3.0.query.json", "pgs.json"}, self.names())
+        self.assertIn("gave no answer: 4.1\n", told)
+        self.assertIn("after they were trimmed: epoch 63\n", told)
+
+    def test_without_a_connection_commands_are_called(self):
+        self.commands("ceph")
+        (self.folder / "refuse").write_text("")
+        self.fetch("--no-groups")
+        self.assertTrue([call for call in self.calls() if call.startswith("ceph pg dump")])
+
+    def test_words_that_librados_has_not_are_for_commands(self):
+        self.commands("ceph")
+        for words in ("ceph --verbose", f"{self.folder}/bin/ceph -x 1", "env ceph"):
+            shutil.rmtree(self.out, ignore_errors=True)
+            self.run_tool("fetch", self.out, "--from", 64, "--no-groups", "--seconds", 0, "--ceph", words)
+            self.assertFalse([call for call in self.calls() if call.startswith("rados ")], words)
 
 
 class Faults(Fetch):
@@ -266,7 +378,7 @@ class Faults(Fetch):
     def test_progress_is_shown_on_a_terminal_alone(self):
         self.commands("ceph")
         leader, follower = pty.openpty()
-        env = {**os.environ, "PATH": str(self.folder / "bin")}
+        env = {**os.environ, "PATH": str(self.folder / "bin"), "PYTHONPATH": str(self.library())}
         run = subprocess.run([*TOOL, "fetch", str(self.out), "--no-groups", "--from", "62"], stderr=follower, env=env)
         os.close(follower)
         shown = os.read(leader, 100_000).decode()
