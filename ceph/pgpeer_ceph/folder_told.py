@@ -33,7 +33,7 @@ def table(rows: Sequence[Row]) -> Iterator[str]:
 
 def row_of(cluster: Cluster, group: Group, view: Optional[View]) -> Row:
     said = cluster.said.get(group)
-    theirs = (said.state, str(said.epoch)) if said else ("unknown", "")
+    theirs = (said.state, str(said.epoch)) if said else ("not kept", "")
     if view is None:
         return group_text(group), *theirs, "not in the script", "", ""
     agree, rule = rule_of(cluster, group, view)
@@ -136,6 +136,13 @@ def caveats(notes: Notes, groups: List[Group], is_table: bool, devices: Iterable
     if found:
         yield "" if is_table else "  not carried over:"
         yield from ((f"not carried over: {it}" if is_table else f"    {it}") for it in found)
+
+
+def caveats_named(notes: Notes) -> Iterator[str]:
+    """That not all was carried over, and what tells it."""
+    if notes.things:
+        yield ""
+        yield f"Not all was carried over (explain tells {len(notes.things)} cause{'' if len(notes.things) == 1 else 's'})."
 
 
 def folder_text(folder: str, program: str, groups: List[Group], with_losses: bool) -> str:

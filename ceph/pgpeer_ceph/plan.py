@@ -3,29 +3,31 @@
 import argparse
 import collections
 import concurrent.futures
+import itertools
 import os
 from typing import Any, Dict, Iterator, List, Tuple
 
 from .buckets import hosts_of
 from .cluster import SERVES, Cluster
-from .folder_told import caveats, table
+from .folder_told import caveats_named, table
 from .maps import Group, group_text
 from .nodes import compact
 from .output import write
 from .program import option_of_program
 from .rules import word_of
 from .starts import Need, Plan, Start, need_of, plan_of
-from .steps import View
-from .waits import last_members, waits_for
+from .steps import Pool, View
+from .waits import last_members, waits_for, waits_for_backfill
 
 MOST_GROUPS = 8  # that a step names
 MOST_STAYING = 200
+MOST_WAYS = 16  # that are listed of one group
 ABOUT = """\
-Tells from a FOLDER that fetch filled which devices to start so that groups are no longer Down or without a primary: a small set,
-each step the one that frees most, and its size beside a number below which no set can be. No step declares a device lost. Then it
-tells which groups stay as they are, and what each waits for. A group that is freed hears its members first, and may wait for
-backfill before it is active. Nothing is started: the steps are for you to take, `systemctl start ceph-osd@ID` on the host that is
-named, or `ceph orch daemon start osd.ID`.
+Tells from a FOLDER that fetch filled which devices to start so that groups are no longer Down, without a primary, or Short where
+devices that served them last are down: a small set, each step the one that frees most, and its size beside a number below which no
+set can be. No step declares a device lost. Then it tells which groups stay as they are, and what each waits for. A group that is
+freed hears its members first, and may wait for backfill before it is active. Nothing is started: the steps are for you to take,
+`systemctl start ceph-osd@ID` on the host that is named, or `ceph orch daemon start osd.ID`.
 
 Status 0: the plan was written. Status 2: the command line or the input is wrong.
 """
@@ -38,7 +40,7 @@ class Planned:
         self.cluster, carried = cluster, cluster.carried()
         self.left_out = [group for group in cluster.groups if group not in carried]
         self.views = {group: view for group, view in cluster.all_views().items() if view["verdict"] not in SERVES}
-        self.needs = self.needs_of([group for group, view in self.views.items() if view["verdict"] in ("Down", "NoPrimary")])
+        self.needs = self.needs_of([group for group, view in self.views.items() if view["verdict"] in ("Down", "NoPrimary", "Short")])
         self.plan: Plan = plan_of(self.needs)
         self.then = self.views_then()
 
@@ -52,18 +54,22 @@ class Planned:
         return {group: need for same, need in zip(alike.values(), found) for group in same if need.sets}
 
     def likeness(self, group: Group) -> Any:
-        """What decides which starts help: verdict, code, and the intervals that matter with their devices."""
+        """What decides which starts help: verdict, code, acting set, and the intervals that matter with their devices."""
         view = self.views[group]
         past = tuple((it["first"], it["last"], tuple(it["acting"])) for it in view["intervals"])
-        return view["verdict"], self.cluster.pool(group)._replace(groups=repr(self.cluster.pool(group).groups)), past
+        pool = self.cluster.pool(group)
+        return view["verdict"], pool._replace(groups=repr(pool.groups)), past, tuple(view["acting"]), waits_for_backfill(self.cluster, group, view)
 
     def need(self, group: Group) -> Need:
-        """What the program names; of a group without a primary that nothing blocks each device that served it last."""
-        view = self.views[group]
-        need = need_of(self.cluster.reasons(group))
-        if need.sets or view["verdict"] != "NoPrimary":
+        """What the program names; of a group that nothing blocks, devices that served it last, as many as it lacks."""
+        view, cluster = self.views[group], self.cluster
+        need = Need(frozenset(), False) if view["verdict"] == "Short" else need_of(cluster.reasons(group))
+        if need.sets or view["verdict"] == "Down" or waits_for_backfill(cluster, group, view):
             return need
-        return Need(frozenset(frozenset([osd]) for osd in last_members(self.cluster, view)), False)
+        count = lacking(view, cluster.pool(group))
+        ways = itertools.combinations(last_members(cluster, view), count)
+        listed = [frozenset(osds) for osds in itertools.islice(ways, MOST_WAYS + 1)]
+        return Need(frozenset(listed[:MOST_WAYS]), len(listed) > MOST_WAYS)
 
     def views_then(self) -> Dict[Group, View]:
         """What the program says of the groups once all devices of the plan have booted."""
@@ -79,6 +85,12 @@ class Planned:
         return [group for group in self.views if group not in self.needs or group in held]
 
 
+def lacking(view: View, pool: Pool) -> int:
+    """How many members a group lacks to serve, or to be led."""
+    members = sum(osd is not None for osd in view["acting"])
+    return max(1, max(pool.min_size, pool.k or 1) - members) if view["verdict"] == "Short" else 1
+
+
 def lines_of(planned: Planned) -> Iterator[str]:
     cluster, counts = planned.cluster, collections.Counter(view["verdict"] for view in planned.views.values())
     told = ", ".join(f"{verdict} {count:,}" for verdict, count in counts.most_common()) or "none"
@@ -87,21 +99,20 @@ def lines_of(planned: Planned) -> Iterator[str]:
     yield from staying_text(planned)
     if planned.left_out:
         yield f"not in the script: {len(planned.left_out):,} groups (--pg carries one)"
-    yield from caveats(cluster.notes, [], True)
+    yield from caveats_named(cluster.notes)
 
 
 def steps_text(planned: Planned) -> Iterator[str]:
     plan = planned.plan
     if not plan.steps:
-        yield "No start of a device frees a group that is Down or without a primary."
+        yield "There is no device to start that frees one."
         return
     yield f"Starting {count_of(len(plan.osds()), 'device')} frees {count_of(len(planned.needs), 'group')}; {bound_text(plan)}"
     yield ""
     yield from table([("step", "start", "host", "down since", "frees", "left", "groups"), *rows_of(planned)])
     after = collections.Counter(view["verdict"] for view in planned.then.values())
     yield ""
-    yield "Then, before any of them has reported: " + ", ".join(f"{verdict} {count:,}" for verdict, count in after.most_common())
-    yield "A freed group hears its members first; one without complete copies enough stays peered until backfill is done."
+    yield "Before they report, the freed are " + ", ".join(f"{verdict} {count:,}" for verdict, count in after.most_common()) + "; then some may wait for backfill."
 
 
 def bound_text(plan: Plan) -> str:

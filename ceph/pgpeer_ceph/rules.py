@@ -46,7 +46,7 @@ def rule_of(cluster: Cluster, group: Group, view: View) -> Tuple[bool, str]:
     """Whether Ceph's state and the verdict agree, and the rule where they don't; "" where none says why."""
     said = cluster.said.get(group)
     if said is None:
-        return view["verdict"] == "NoPrimary", "unsettled"
+        return False, "not asked"
     if word_of(said.state) in OURS.get(view["verdict"], ()):
         return True, ""
     return False, difference(cluster, group, view, said)

@@ -14,6 +14,8 @@ from .notes import Notes
 
 SETS = re.compile(r"^(\d{1,9})\.([0-9a-f]{1,8}) raw .* up \(\[(.*?)\], p(-?\d+)\) acting \(\[(.*?)\], p(-?\d+)\)", re.MULTILINE)
 
+NO_SETS = re.compile(r"^#osd\tcount\t", re.MULTILINE)  # the head of the table below the groups
+
 
 class Where(NamedTuple):
     """Where one group lies. An empty place and an absent primary are None."""
@@ -40,8 +42,8 @@ def osds_of(text: str) -> Tuple[Optional[int], ...]:
 
 
 def is_printed(text: str) -> bool:
-    """Tells whether the text is what osdmaptool prints of groups."""
-    return SETS.search(text) is not None
+    """Tells whether the text is what osdmaptool prints of groups; a map without pools has no line of one."""
+    return SETS.search(text) is not None or NO_SETS.search(text) is not None
 
 
 def printed_sets(text: str, where: str) -> Dict[Group, Where]:

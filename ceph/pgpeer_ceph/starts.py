@@ -47,7 +47,7 @@ def plan_of(needs: Dict[Group, Need]) -> Plan:
     while open_groups:
         osds = best_start(open_groups, started)
         started |= osds
-        freed = [group for group, need in open_groups.items() if need.is_met(started)]
+        freed = sorted(group for group, need in open_groups.items() if need.is_met(started))
         steps.append(Start(sorted(osds), freed))
         for group in freed:
             del open_groups[group]

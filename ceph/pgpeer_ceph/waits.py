@@ -33,12 +33,21 @@ def waits_for(cluster: Cluster, group: Group, view: View) -> str:
             "NeedLog": "a log that isn't in the folder", "NeedUpThru": "the next map"}.get(verdict, "")
 
 
+def up_of(cluster: Cluster, group: Group) -> Set[Tuple[int, int]]:
+    """The up set of a group, as Ceph said it last."""
+    said = cluster.said.get(group)
+    return members_of(said.up, cluster.pool(group)) if said else set()
+
+
+def waits_for_backfill(cluster: Cluster, group: Group, view: View) -> bool:
+    """Tells whether a group is Short though its up set has members enough."""
+    return bool(view["verdict"] == "Short" and are_enough(up_of(cluster, group), cluster.pool(group)))
+
+
 def short_text(cluster: Cluster, group: Group, view: View) -> str:
     """Whether a group that is Short waits for backfill, or for a device."""
-    said, pool = cluster.said.get(group), cluster.pool(group)
-    up = members_of(said.up, pool) if said else set()
-    if are_enough(up, pool):
-        return "backfill to " + osds_text(osd for osd, _ in up)
+    if waits_for_backfill(cluster, group, view):
+        return "backfill to " + osds_text(osd for osd, _ in up_of(cluster, group))
     return "another device" + served_text(cluster, view)
 
 

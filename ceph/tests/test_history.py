@@ -90,8 +90,9 @@ class Outage(Case):
     def test_it_is_told_as_ceph_tells_it(self):
         self.groups = ("1.0",)
         text = self.told(OUTAGE)
-        document = (ROOT / "docs/REAL_MAPS.md").read_text()
-        self.assertIn("".join(f"    {line}\n" for line in text.splitlines()), document)
+        document = (ROOT / "docs/OPERATING.md").read_text()
+        ceph, *more = (f"    {line}\n" for line in text.splitlines())
+        self.assertTrue(ceph in document and "".join(more) in document)
         peering = json.loads((OUTAGE / "d-blocked.query.json").read_text())["recovery_state"][1]
         for it in peering["past_intervals"][0]["intervals"]:
             self.assertIn(f"epochs {it['first']} to {it['last']} on osd.{it['acting']}", text)

@@ -41,7 +41,7 @@ FILES = {
 OPTIONS = {"run": {"--shards", "--workers"}, "explain": {"--json", "--epoch-offset"}, "compact": set()}
 SUBCOMMANDS = {*OPTIONS, "help"}
 OPTION = re.compile(r"(?<![\w-])--[a-z][a-z-]*")
-VERBS = ("fetch", "script", "explain", "draw", "map")
+VERBS = ("fetch", "script", "explain", "plan", "what-if", "draw", "map")
 
 
 def files_in(folder):

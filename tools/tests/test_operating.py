@@ -11,7 +11,7 @@ ROOT = pathlib.Path(__file__).resolve().parent.parent.parent
 PROGRAM = os.environ.get("PGPEER", str(ROOT / "crates/pgpeer/out/pgpeer"))
 HAS_PROGRAM = os.access(PROGRAM, os.X_OK)
 PAGE = ROOT / "docs/OPERATING.md"
-FROM_CLUSTER = ("pgpeer-ceph fetch outage", "pgpeer-ceph script --output outage.jsonl outage")
+FROM_CLUSTER = ("pgpeer-ceph fetch outage", "pgpeer-ceph what-if outage --stop host:h3\npgpeer-ceph what-if outage --each host")
 STREAMS = {"prints": "stdout", "says on standard error": "stderr"}
 VERDICTS = ("NoPrimary", "Down", "Waiting", "Incomplete", "Short", "NeedLog", "NeedUpThru", "Serve")
 
