@@ -74,7 +74,13 @@ class Cluster:
         self.tree: Optional[Node] = dumps.trees[max(trees)] if trees else None
         counts = pools_of(self.last)
         self.groups = [(pool, pg) for pool, count in sorted(counts.items()) for pg in range(count)]
+        self.tell_others()
         self.check_named(named)
+
+    def tell_others(self) -> None:
+        """Tells of groups that Ceph named and the last map hasn't, as where maps of later epochs weren't kept."""
+        for group in sorted(self.said.keys() - set(self.groups)):
+            self.notes.tell(f"groups that the last map, of epoch {self.last.key('epoch').count()}, doesn't have", group_text(group))
 
     def check_named(self, named: Iterable[Group]) -> None:
         for group in named:

@@ -49,10 +49,10 @@ def lines_of(told: Told, with_losses: bool = False) -> Iterator[str]:
     yield head(told.view, told.name, told.epochs)
     if told.said is not None:
         yield f"  {ceph_text(told.said, told.rule)}"
-    yield f"  {told.why.says}"
+    yield f"  {backfill_text(told) or told.why.says}"
     yield from places(told)
     yield from intervals(told)
-    for text in (ending(told.why), backfill_text(told), few_text(told), lost_text(told.why) if with_losses else ""):
+    for text in (ending(told.why), few_text(told), lost_text(told.why) if with_losses else ""):
         if text:
             yield f"  {text}"
 
@@ -97,8 +97,9 @@ def backfill_text(told: Told) -> str:
     said, pool = told.said, told.pool()
     if told.view["verdict"] != "Short" or said is None:
         return ""
-    up = members_of(said.up, pool)
-    return f"It waits for backfill to {osds_text(osd for osd, _ in up)}, and for no device that is down" if are_enough(up, pool) else ""
+    up, acting = members_of(said.up, pool), members_of(told.view["acting"], pool)
+    return (f"Its acting set has {len(acting)} member{'' if len(acting) == 1 else 's'}, and its up set enough: it waits for backfill to "
+            f"{osds_text(osd for osd, _ in up - acting)}, and for no device that is down.") if are_enough(up, pool) else ""
 
 
 def few_text(told: Told) -> str:

@@ -28,11 +28,12 @@ class Parts:
         self.up: Dict[int, int] = {}  # the devices that are up, with the epochs in which they booted
         self.known: Set[int] = set()  # the devices that exist
         self.has_tree = False
+        self.infos: Dict[Group, Dict[Member, Line]] = {}  # the last of each member
         for line in lines:
             if line["op"] == "inc":
                 self.take(line)
             elif "pg" in line and line["op"] != "ask":
-                self.fronts[-1].reports.setdefault(tuple(line["pg"]), []).append(line)
+                self.take_report(line, (line["pg"][0], line["pg"][1]))
 
     def take(self, line: Line) -> None:
         inc = {key: value for key, value in line.items() if key != "temp"}
@@ -47,6 +48,12 @@ class Parts:
             self.up.pop(osd, None)
         self.up.update((osd, line["epoch"]) for osd in line.get("up", ()))
         self.known = (self.known | set(line.get("up", ()))) - set(line.get("gone", ()))
+
+    def take_report(self, line: Line, group: Group) -> None:
+        self.fronts[-1].reports.setdefault(group, []).append(line)
+        infos, member = self.infos.setdefault(group, {}), (line["from"][0], line["from"][1])
+        if line["op"] == "info" and line["stamp"] >= infos.get(member, line)["stamp"]:
+            infos[member] = line
 
     def is_down(self, osd: int) -> bool:
         """Tells whether a device is down and may come back."""
@@ -88,19 +95,9 @@ class Parts:
 
     # Reports
 
-    def infos(self, group: Group) -> Dict[Member, Line]:
-        """The last info of each member that told of its copy."""
-        found: Dict[Member, Line] = {}
-        for front in self.fronts:
-            for line in front.reports.get(group, ()):
-                member = line["from"][0], line["from"][1]
-                if line["op"] == "info" and line["stamp"] >= found.get(member, line)["stamp"]:
-                    found[member] = line
-        return found
-
     def heard(self, group: Group, first: int) -> Dict[Member, Line]:
         """The infos that count: not older than the current interval, nor than the last boot of their device."""
-        return {member: info for member, info in self.infos(group).items()
+        return {member: info for member, info in self.infos.get(group, {}).items()
                 if info["stamp"] >= max(first, self.up.get(member[0], info["stamp"] + 1))}
 
     def unheard(self, group: Group, view: View) -> List[Member]:
@@ -126,7 +123,7 @@ class Part:
 
     def lines_of(self, front: Front) -> Iterator[str]:
         """The lines of a front, as far as they concern the groups."""
-        temps = [[*self.names[group], front.temps[group][2]] for group in self.names if group in front.temps]
+        temps = [[*self.names[group], front.temps[group][2]] for group in sorted(self.names.keys() & front.temps.keys())]
         inc = front.inc
         if "pools" in inc or "sizes" in inc:
             made = [{**pool, "pg_num": self.counts[pool["id"]]} for pool in inc.get("pools", ()) if pool["id"] in self.counts]
@@ -134,8 +131,8 @@ class Part:
             inc = {key: value for key, value in {**inc, "pools": made, "sizes": sizes}.items() if value}
         text = front.text if inc is front.inc else compact(inc)
         yield text[:-1] + f',"temp":{compact(temps)}}}' if temps else text
-        for group in self.names:
-            for line in front.reports.get(group, ()):
+        for group in sorted(self.names.keys() & front.reports.keys()):
+            for line in front.reports[group]:
                 yield self.named(line)
 
     def named(self, line: Line) -> str:

@@ -10,7 +10,7 @@ from .nodes import Unusable
 
 Set = List[int]  # devices that are enough together
 MOST_SPANS = 5  # runs of epochs that are named
-NAMED = re.compile(r"(?<=\bepoch )\d+|(?<=\bepochs )\d+(?:(?:, and | and |, | to )\d+)*")  # epochs in a sentence
+NAMED = re.compile(r"(?<=\bepoch )\d+|(?<=\bup_thru )\d+|(?<=\bepochs )\d+(?:(?:, and | and |, | to )\d+)*")  # epochs in a sentence
 KEYS = ("says", "verdict", "blocking", "starts", "losses", "unheard")
 
 

@@ -47,7 +47,7 @@ def waits_for_backfill(cluster: Cluster, group: Group, view: View) -> bool:
 def short_text(cluster: Cluster, group: Group, view: View) -> str:
     """Whether a group that is Short waits for backfill, or for a device."""
     if waits_for_backfill(cluster, group, view):
-        return "backfill to " + osds_text(osd for osd, _ in up_of(cluster, group))
+        return "backfill to " + osds_text(osd for osd, _ in up_of(cluster, group) - members_of(view["acting"], cluster.pool(group)))
     return "another device" + served_text(cluster, view)
 
 

@@ -63,7 +63,7 @@ def ending(why: Reasons) -> str:
     if not why.blocking:
         return ""
     head = "What ends Down" if why.verdict == "Down" else "It would be Down, too; what ends that"
-    return f"{head}: start {sets_text(why.starts)}" if why.starts["sets"] else f"{head}: no start does"
+    return f"{head}: start {sets_text(why.starts)} (it may wait for backfill then)" if why.starts["sets"] else f"{head}: no start does"
 
 
 def lost_text(why: Reasons) -> str:
