@@ -115,8 +115,7 @@ class Story:
                 if late.stamp > asked.get(info.group, 0):
                     self.notes.tell(STATS, group_text(info.group))
                     found.setdefault((late.group, late.member, late.stamp), late)
-        for info in self.stopped():
-            found.setdefault((info.group, info.member, info.stamp), info)
+        found.update(((info.group, info.member, info.stamp), info) for info in self.stopped())
         found = {key: self.without_log(info) for key, info in found.items()}
         last, devices = self.snapshots[-1], self.devices()
         kept = (info for info in found.values() if tell_faults(info, last.pools, devices, last.epoch, self.notes))

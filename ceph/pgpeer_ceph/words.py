@@ -68,7 +68,8 @@ def ending(why: Reasons) -> str:
 
 def lost_text(why: Reasons) -> str:
     """Which devices to declare lost, where nothing else is left."""
-    if not why.losses["sets"]:
+    losses = why.whole.get("losses") or {}
+    if not losses.get("sets"):
         return ""
-    return (f"Last resort, with no way back: declare lost {sets_text(why.losses)}, which gives up what was written in "
+    return (f"Last resort, with no way back: declare lost {sets_text(losses)}, which gives up what was written in "
             f"{epochs_text(why.blocking, why.epochs)} at least")

@@ -33,7 +33,8 @@ def need(*sets, is_cut=False):
 def reasons(**more):
     ways = {"sets": [[0], [3, 5]], "more": False}
     blocking = [{"first": 3, "last": 4, "down": [0, 3, 5], "lacks": 1, "acting": [0, 3, 5], "clean": None}]
-    return Reasons(**{**{"says": "It waits.", "verdict": "Down", "blocking": blocking, "starts": ways, "losses": ways, "unheard": []}, **more})
+    fields = {"says": "It waits.", "verdict": "Down", "blocking": blocking, "starts": ways, "losses": ways, "unheard": [], "whole": {"losses": ways}, **more}
+    return Reasons(**{key: value for key, value in fields.items() if key in Reasons._fields})
 
 
 class Folders(Room):
@@ -286,7 +287,7 @@ class Words(unittest.TestCase):
     def test_losses_are_the_last_resort(self):
         wanted = "Last resort, with no way back: declare lost osd.0, or osd.3 and osd.5, which gives up what was written in epochs 3 to 4 at least"
         self.assertEqual(lost_text(reasons()), wanted)
-        self.assertEqual(lost_text(reasons(losses={"sets": [], "more": False})), "")
+        self.assertEqual(lost_text(reasons(whole={"losses": {"sets": [], "more": False}})), "")
 
     def told(self, verdict, pool, up=(), heard=(), acting=(0, 1)):
         view = {"verdict": verdict, "acting": list(acting)}

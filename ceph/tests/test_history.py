@@ -86,6 +86,31 @@ class Outage(Case):
         self.assertEqual(max(incrementals(lines)) - min(incrementals(lines)), 21 - 19 + len(incrementals(lines)) - 3)
         self.assertEqual(incrementals(lines)[max(incrementals(lines)) - 1]["down"], [1])
 
+    def test_intervals_before_the_first_epoch_that_is_wanted_are_told(self):
+        err = self.history("--from", 24, OUTAGE)[1]
+        self.assertIn("begin before --from and so aren't whole in the script: 1.0 in epochs 20 to 21, 1.0 in epochs 23 to 24\n", err)
+        self.assertIn("of whose intervals the script knows what queries list alone: those before 24\n", err)
+        self.assertNotIn("--from", self.history(OUTAGE)[1])
+
+    def test_the_info_of_a_stopped_device_is_a_report_of_its_last_epoch(self):
+        shutil.copytree(OUTAGE, self.folder / "dumps")
+        info = json.loads((OUTAGE / "c-osd1-down.query.json").read_text())["info"]
+        (self.folder / "dumps/osd.0-1.0.info.json").write_text(json.dumps({**info, "last_epoch_started": 20}))
+        before, after = ([it for it in self.history(folder)[0] if it["op"] == "info"] for folder in (OUTAGE, self.folder / "dumps"))
+        added = [it for it in after if it not in before]
+        self.assertEqual([(it["from"], it["les"] + 15, it["stamp"] + 15) for it in added], [([0, 0], 20, 21)])
+        (self.folder / "dumps/osd.0-1.0.info.json").rename(self.folder / "dumps/info.json")
+        self.assertIn("the name of an info's file has to tell the device", self.fault(self.folder / "dumps"))
+
+    def test_a_map_without_pools_has_no_groups(self):
+        shutil.copytree(OUTAGE, self.folder / "dumps")
+        (self.folder / "dumps/17.groups.txt").write_text("#osd\tcount\tfirst\tprimary\tc wt\twt\n in 0\n")
+        self.assertNotIn("no dump", self.history(self.folder / "dumps")[1])
+
+    def fault(self, *words):
+        status, out, err = written("script", *words)
+        return err
+
     @unittest.skipUnless(HAS_PROGRAM, f"no program {PROGRAM}")
     def test_it_is_told_as_ceph_tells_it(self):
         self.groups = ("1.0",)

@@ -58,6 +58,22 @@ class Renumbered(Room):
         self.assertEqual([(it["id"], it["pool"], len(it["groups"])) for it in side["pools"]], [(1, 300, 1024), (2, 300, 1024)])
 
     @unittest.skipUnless(HAS_PROGRAM, f"no program {PROGRAM}")
+    def test_a_folder_is_told_under_ceph_s_numbers(self):
+        self.stats = [self.stat(f"300.{pg:x}") for pg in range(3)] + [self.stat("300.3", "down", (2,))]
+        self.put(300, 4, 63, 64)
+        query = json.loads((STRAW2 / "3.0.query.json").read_text())
+        query["info"]["pgid"] = "300.3"
+        (self.room / "q.json").write_text(json.dumps(query))
+        table = "4 groups in epoch 64: 3 active, 1 not\n\nPG     Ceph  epoch  here  waits             rule\n300.3  down  64     Down  blocked by osd.0\n"
+        for words, wanted in ((("explain",), table), (("plan",), "1     osd.0  -     epoch 60    1      0     300.3\n"),
+                              (("what-if", "--stop", "osd.3", "--stop", "osd.2"), "3 stop serving (NoPrimary 3)")):
+            status, out, err = written(words[0], "--program", PROGRAM, self.room, *words[1:])
+            self.assertEqual((status, err), (0, ""))
+            self.assertIn(wanted, out)
+        status, out, _ = written("explain", "--program", PROGRAM, self.room, "300.3")
+        self.assertIn("300.3 in epoch 64: Down, blocked by osd.0\n  Ceph says down in epoch 64, blocked by osd.0\n", out)
+
+    @unittest.skipUnless(HAS_PROGRAM, f"no program {PROGRAM}")
     def test_each_group_has_its_name_and_its_verdict(self):
         self.stats = [self.stat(f"300.{pg:x}") for pg in range(0x405)] + [self.stat("300.405", "down", (2,))]
         self.put(300, 0x406, 63, 64)
@@ -65,9 +81,10 @@ class Renumbered(Room):
         (self.room / "q.json").write_text(json.dumps({**query, "info": {**query["info"], "pgid": "300.405"}}))
         self.made()
         told = self.explained("300.405", "300.400", "300.3ff")
-        self.assertIn("300.405 in epoch 64: Down, blocked by osd.0\n  up [], acting [2], led by osd.2", told)
+        self.assertIn("300.405 in epoch 64: Down, blocked by osd.0\n  It waits for osd.0, which is down: writes may have been taken in epochs 56 to 59,", told)
+        self.assertIn("\n  up [], acting [2], led by osd.2", told)
         for name in ("300.400", "300.3ff"):
-            self.assertIn(f"{name} in epoch 64: Serve\n  up [], acting [3, 2]", told)
+            self.assertIn(f"{name} in epoch 64: Serve\n  It serves, led by osd.3.\n  up [], acting [3, 2]", told)
         status, _, err = written("explain", "--program", PROGRAM, self.script, "300.406")
         self.assertEqual((status, err), (2, "pgpeer-ceph: error: the script has no group 300.406\n"))
 
