@@ -102,7 +102,7 @@ class Fetch:
         self.named = max([*epochs, *reported], default=0)
 
     def groups(self) -> List[str]:
-        """The groups to ask, those that aren't active first, then those that aren't clean."""
+        """The groups to ask: those that aren't active, those that aren't clean, the others, and last those that may not answer."""
         if self.stats is None:
             return self.groups_of_map()
         unknown = [group for group in self.wanted if group not in self.stats]
@@ -112,7 +112,7 @@ class Fetch:
         for group in [it for it in led if self.stats[it].key("acting_primary").whole() < 0]:
             self.notes.tell(LED_BY_NOBODY, group)
             del led[group]
-        return sorted(led, key=lambda group: ("active" in led[group], "clean" in led[group]))
+        return sorted(led, key=lambda group: ("stale" in led[group], "active" in led[group], "clean" in led[group]))
 
     def groups_of_map(self) -> List[str]:
         """All groups that the map has, where there is nothing that tells their states."""

@@ -148,4 +148,9 @@ def caveats_named(notes: Notes) -> Iterator[str]:
 def folder_text(folder: str, program: str, groups: List[Group], with_losses: bool) -> str:
     cluster = Cluster(folder, program, groups)
     lines = groups_text(cluster, groups, with_losses) if groups else whole_text(cluster)
-    return "".join(f"{line}\n" for line in lines)
+    return printable(lines)
+
+
+def printable(lines: Iterable[str]) -> str:
+    """Lines for a terminal, which obeys none of their marks."""
+    return "".join(f"{one_line(line)}\n" for line in lines)

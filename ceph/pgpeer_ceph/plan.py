@@ -9,7 +9,7 @@ from typing import Any, Dict, Iterator, List, Tuple
 
 from .buckets import hosts_of
 from .cluster import SERVES, Cluster
-from .folder_told import caveats_named, table
+from .folder_told import caveats_named, printable, table
 from .maps import Group, group_text
 from .nodes import compact
 from .output import write
@@ -165,7 +165,7 @@ def staying_row(planned: Planned, group: Group) -> Tuple[str, ...]:
 
 def run(options: argparse.Namespace) -> int:
     planned = Planned(Cluster(options.folder, options.program))
-    write("".join(f"{line}\n" for line in lines_of(planned)))
+    write(printable(lines_of(planned)))
     return 0
 
 

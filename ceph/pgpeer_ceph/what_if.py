@@ -6,7 +6,7 @@ from typing import Any, Counter, Dict, Iterator, List, Tuple
 
 from .buckets import Place, place_of, places_of
 from .cluster import Cluster
-from .folder_told import caveats_named, table
+from .folder_told import caveats_named, printable, table
 from .maps import Group, group_text
 from .nodes import Unusable
 from .output import write
@@ -146,7 +146,7 @@ def run(options: argparse.Namespace) -> int:
         places_of(cluster, options.each)
     stops = Stops(cluster)
     lines = stop_text(stops, places) if places else each_text(stops, options.each)
-    write("".join(f"{line}\n" for line in (*lines, *caveats_named(cluster.notes))))
+    write(printable([*lines, *caveats_named(cluster.notes)]))
     return 0
 
 

@@ -130,6 +130,15 @@ class Explained(Folders):
         self.assertTrue(table.startswith("0 groups in epoch 64: 0 active, 0 not\n"))
         self.assertIn("not carried over: groups that the last map, of epoch 64, doesn't have: 3.0, 3.1, 3.2 and 3 more\n", table)
 
+    def test_marks_of_a_terminal_are_taken_out(self):
+        (self.room / "3.0.query.json").unlink()
+        self.put_states({"3.0": {"state": "down\x1b[31m<b>", "reported_epoch": 64}})
+        self.put_hosts()
+        tree = json.loads((self.room / "50.crush.json").read_text())
+        (self.room / "50.crush.json").write_text(json.dumps(tree).replace('"h0"', '"h\\u001b[2J"'))
+        for words in (("explain",), ("explain", "3.0"), ("plan",), ("what-if", "--each", "host"), ("what-if", "--stop", "osd.2")):
+            self.assertNotIn("\x1b", self.told(*words))
+
     def test_faults(self):
         self.assertEqual(self.fault("explain", "--program", PROGRAM, self.room, "9.0"), f"pgpeer-ceph: error: {self.room} has no group 9.0")
         self.assertIn("no group", self.fault("explain", "--program", PROGRAM, self.room, "x"))

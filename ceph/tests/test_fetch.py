@@ -310,6 +310,14 @@ class Faults(Fetch):
         self.fetch("--no-groups")
         self.assertEqual({call.split()[4] for call in self.calls() if " tell " in call}, {"3.2", "4.1"})
 
+    def test_groups_that_are_stale_are_asked_last(self):
+        self.commands("ceph")
+        dump = json.loads((STRAW2 / "pgs.json").read_text())
+        next(it for it in dump["pg_map"]["pg_stats"] if it["pgid"] == "3.0")["state"] = "stale+down"
+        (self.folder / "pgs.json").write_text(json.dumps(dump))
+        self.fetch("--no-groups", "--jobs", 1)
+        self.assertEqual([call.split()[4] for call in self.calls() if " tell " in call][-1], "3.0")
+
     def test_groups_without_a_primary_are_not_asked(self):
         self.commands("ceph")
         dump = json.loads((STRAW2 / "pgs.json").read_text())
