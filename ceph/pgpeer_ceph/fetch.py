@@ -23,8 +23,9 @@ LED_BY_NOBODY = "reports of groups without a primary, which nobody can give"
 ABOUT = """\
 Keeps in a folder what `script` reads: what `ceph pg dump` says, the queries of groups, those that aren't active first, the use of
 devices, and then maps, trees and where groups lie, up to the last epoch that a report names. It changes nothing in the cluster.
-Where librados is there (Debian's python3-rados), one connection serves all calls, else commands are called. Each file is written whole as it comes, and a second call goes on where the first one ended. What fails is tried again; what is
-lacking in the end is told, and kept in the folder for `script` to tell.
+Where librados is there (Debian's python3-rados), one connection serves all calls, else commands are called. Each file is written
+whole as it comes, and a second call goes on where the first one ended. What fails is tried again; what is lacking in the end is
+told, and kept in the folder for `script` to tell.
 
 Status 0: what there was is in the folder. Status 2: the command line is wrong, there is no command of Ceph's, no map was fetched,
 or a write failed.

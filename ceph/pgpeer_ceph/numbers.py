@@ -146,7 +146,8 @@ def query_under(query: Node, numbers: Numbers) -> Node:
 
 def infos_under(dumps: Dumps, numbers: Numbers) -> List[Tuple[int, Node]]:
     """The infos of stopped devices."""
-    return [(osd, Node(info_under(node, numbers), node.where)) for osd, node in dumps.infos if read_group(node.key("pgid")) in numbers.scripts]
+    return [(osd, Node(info_under(node, numbers), node.where)) for osd, node in dumps.infos
+            if read_group(node.key("pgid")) in numbers.scripts]
 
 
 def info_under(info: Node, numbers: Numbers) -> Dict[str, Any]:

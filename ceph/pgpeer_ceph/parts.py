@@ -4,7 +4,7 @@ from typing import Any, Dict, Iterable, Iterator, List, NamedTuple, Set, Tuple
 
 from .maps import Group
 from .nodes import compact
-from .steps import History, Member, Pool, View, pool_of
+from .steps import Member, Pool, View, pool_of
 
 Line = Dict[str, Any]
 

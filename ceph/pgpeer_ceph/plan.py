@@ -5,7 +5,7 @@ import collections
 import concurrent.futures
 import itertools
 import os
-from typing import Any, Dict, Iterator, List, Tuple
+from typing import Any, Dict, Iterable, Iterator, List, Tuple
 
 from .buckets import hosts_of
 from .cluster import SERVES, Cluster
@@ -55,10 +55,10 @@ class Planned:
 
     def likeness(self, group: Group) -> Any:
         """What decides which starts help: verdict, code, acting set, and the intervals that matter with their devices."""
-        view = self.views[group]
+        view, pool = self.views[group], self.cluster.pool(group)
         past = tuple((it["first"], it["last"], tuple(it["acting"])) for it in view["intervals"])
-        pool = self.cluster.pool(group)
-        return view["verdict"], pool._replace(groups=repr(pool.groups)), past, tuple(view["acting"]), waits_for_backfill(self.cluster, group, view)
+        for_backfill = waits_for_backfill(self.cluster, group, view)
+        return view["verdict"], pool._replace(groups=repr(pool.groups)), past, tuple(view["acting"]), for_backfill
 
     def need(self, group: Group) -> Need:
         """What the program names; of a group that nothing blocks, devices that served it last, as many as it lacks."""
@@ -92,9 +92,9 @@ def lacking(view: View, pool: Pool) -> int:
 
 
 def lines_of(planned: Planned) -> Iterator[str]:
-    cluster, counts = planned.cluster, collections.Counter(view["verdict"] for view in planned.views.values())
-    told = ", ".join(f"{verdict} {count:,}" for verdict, count in counts.most_common()) or "none"
-    yield f"Groups that don't serve in epoch {cluster.last.key('epoch').count()}: {len(planned.views):,} of {len(cluster.groups):,} ({told})"
+    cluster, told = planned.cluster, verdicts_text(planned.views.values()) or "none"
+    epoch = cluster.last.key("epoch").count()
+    yield f"Groups that don't serve in epoch {epoch}: {len(planned.views):,} of {len(cluster.groups):,} ({told})"
     yield from steps_text(planned)
     yield from staying_text(planned)
     if planned.left_out:
@@ -110,9 +110,14 @@ def steps_text(planned: Planned) -> Iterator[str]:
     yield f"Starting {count_of(len(plan.osds()), 'device')} frees {count_of(len(planned.needs), 'group')}; {bound_text(plan)}"
     yield ""
     yield from table([("step", "start", "host", "down since", "frees", "left", "groups"), *rows_of(planned)])
-    after = collections.Counter(view["verdict"] for view in planned.then.values())
     yield ""
-    yield "Before they report, the freed are " + ", ".join(f"{verdict} {count:,}" for verdict, count in after.most_common()) + "; then some may wait for backfill."
+    yield f"Before they report, the freed are {verdicts_text(planned.then.values())}; then some may wait for backfill."
+
+
+def verdicts_text(views: Iterable[View]) -> str:
+    """How many groups have each verdict."""
+    counts = collections.Counter(view["verdict"] for view in views)
+    return ", ".join(f"{verdict} {count:,}" for verdict, count in counts.most_common())
 
 
 def bound_text(plan: Plan) -> str:

@@ -11,7 +11,7 @@ from .maps import Group, group_text
 from .nodes import Unusable
 from .output import write
 from .placed import Unplaced, placed
-from .plan import count_of
+from .plan import count_of, verdicts_text
 from .program import option_of_program
 from .rules import members_of
 from .stops import Stop, Stops
@@ -60,8 +60,7 @@ def counts_text(stops: Stops, stop: Stop, after: Dict[Group, Dict[int, str]]) ->
 
 def ended_text(stop: Stop) -> str:
     """How many groups stop serving, by verdict."""
-    verdicts = collections.Counter(stop.after[group]["verdict"] for group in stop.ended)
-    told = ", ".join(f"{verdict} {count:,}" for verdict, count in verdicts.most_common())
+    told = verdicts_text(stop.after[group] for group in stop.ended)
     return f"{len(stop.ended):,} stop serving" + (f" ({told})" if told else "")
 
 
