@@ -64,7 +64,8 @@ class Changes:
         if new.epoch > old.epoch + 1:
             self.notes.tell(GAP, ranges(range(old.epoch + 1, new.epoch)))
         for osd in sorted(set(old.devices) | set(new.devices)):
-            self.take_device(old.devices.get(osd), new.devices.get(osd), osd, old.epoch, new.epoch)
+            if old.devices.get(osd) != new.devices.get(osd):
+                self.take_device(old.devices.get(osd), new.devices.get(osd), osd, old.epoch, new.epoch)
         for pool in new.pools.values():
             self.take_pool(old.pools.get(pool.id), pool, old.epoch, new)
         for pool in old.pools.values():

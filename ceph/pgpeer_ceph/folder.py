@@ -7,8 +7,9 @@ as in `a.osd.json` and `a.crush.json`, or with the epoch itself, as in `26.group
 import os
 import re
 from dataclasses import dataclass, field
-from typing import Dict, List, Optional, Tuple
+from typing import Dict, List, Optional, Set, Tuple
 
+from .lean import Lean
 from .maps import Group
 from .nodes import Node, Unusable, parsed, text_of
 from .notes import Notes
@@ -25,7 +26,7 @@ class Dumps:
 
     maps: Dict[int, Node] = field(default_factory=dict)
     trees: Dict[int, Node] = field(default_factory=dict)  # by the version of the tree
-    sets: Dict[int, Dict[Group, Where]] = field(default_factory=dict)
+    sets: Dict[int, Dict[Group, Where]] = field(default_factory=dict)  # by epoch, of groups that lie otherwise than in the one before
     stats: List[Node] = field(default_factory=list)  # of `ceph pg dump`
     queries: List[Node] = field(default_factory=list)
     logs: List[Tuple[int, str, Node]] = field(default_factory=list)  # the device, the group with its shard
@@ -40,7 +41,8 @@ class LooseFiles:
 
     epochs: Dict[str, int] = field(default_factory=dict)
     trees: List[Tuple[str, Node]] = field(default_factory=list)
-    groups: List[Tuple[str, str]] = field(default_factory=list)
+    groups: List[Tuple[str, str]] = field(default_factory=list)  # the text of standard input alone, which can't be read twice
+    lean: Lean = field(default_factory=Lean)
 
 
 def files_of(paths: List[str]) -> List[str]:
@@ -90,8 +92,7 @@ def read_folder(paths: List[str], notes: Notes) -> Dumps:
     if not dumps.maps:
         raise Unusable(f"{' '.join(paths)}: no map, as `ceph osd dump --format json` prints it")
     place_trees(dumps, loose)
-    for path, text in loose.groups:
-        dumps.sets[epoch_of(path, loose)] = printed_sets(text, path)
+    place_sets(dumps, loose)
     return dumps
 
 
@@ -109,8 +110,9 @@ def told_apart(path: str) -> Tuple[str, Node, str]:
 
 
 def take_file(path: str, text: str, node: Node, kind: str, dumps: Dumps, loose: LooseFiles) -> None:
+    node = Node(loose.lean.value(kind, node.value), node.where)
     if kind == "groups":
-        loose.groups.append((path, text))
+        loose.groups.append((path, text if path == "-" else ""))
     elif kind == "map":
         add_map(path, node, dumps, loose)
     elif kind == "tree":
@@ -202,3 +204,13 @@ def place_trees(dumps: Dumps, loose: LooseFiles) -> None:
 
 def version_at(epoch: int, dumps: Dumps) -> Optional[int]:
     return version_of(dumps.maps[epoch]) if epoch in dumps.maps else None
+
+
+def place_sets(dumps: Dumps, loose: LooseFiles) -> None:
+    """Reads where groups lie, in the order of epochs: of each those lines alone that the one before hasn't."""
+    before: Set[str] = set()
+    for epoch, path, text in sorted((epoch_of(path, loose), path, text) for path, text in loose.groups):
+        lines = (text or text_of(path)).splitlines()
+        changed = "\n".join(line for line in lines if line not in before)
+        dumps.sets.setdefault(epoch, {}).update(printed_sets(changed, path))
+        before = set(lines)

@@ -1,5 +1,6 @@
 """The script of a Ceph cluster's history: its map as it was first known, an incremental for each later epoch, and reports."""
 
+import bisect
 from typing import Any, Dict, Iterator, List, NamedTuple, Optional, Set, Tuple
 
 from .changes import Change, Changes, Lawful, Line, earlier
@@ -10,7 +11,7 @@ from .nodes import compact, ranges
 from .notes import Notes
 from .numbers import Numbers
 from .reports import Info, entries_lines, info_line
-from .sets import carried, up_alone
+from .sets import Where, carried, up_alone
 from .story import Selection, Story
 from .trees import Bucket, Crush, carried_tree, choice_of, pools_of_one_root
 
@@ -69,6 +70,7 @@ class Writer:
         self.changes = Changes(story.first, max(story.snapshots[-1].epoch, story.first), self.notes)
         self.root, self.leaves = self.judged()
         self.infos, self.log = story.infos(), story.logs()
+        self.stamps, self.logged = [info.stamp for info in self.infos], {group for group, _ in self.log}
 
     def judged(self) -> Tuple[Optional[int], Dict[int, int]]:
         """The root of the tree, and each pool's failure domain. Pools of other roots are left out."""
@@ -162,7 +164,7 @@ class Writer:
     def later(self, epochs: Epochs, thru: Dict[int, int]) -> Iterator[Line]:
         self.lawful.thru = thru
         has_tree = bool(self.base.pools) and not self.story.wanted.own_sets
-        acting = ActingSets(self, epochs) if self.story.wanted.own_sets else None
+        acting = ActingSets(self) if self.story.wanted.own_sets else None
         version = self.base.tree
         for ceph_epoch in range(self.story.first + 1, self.changes.last + 1):
             epoch, change = epochs.in_script(ceph_epoch), self.changes.by_epoch.get(ceph_epoch, Change())
@@ -196,12 +198,13 @@ class Writer:
 
     def reports(self, ceph_epoch: int, epochs: Epochs) -> Iterator[Line]:
         """The reports of an epoch."""
-        for info in self.infos:
-            if info.stamp == ceph_epoch and info.group[0] in self.story.pools:
+        begin, end = (bisect.bisect_left(self.stamps, epoch) for epoch in (ceph_epoch, ceph_epoch + 1))
+        for info in self.infos[begin:end]:
+            if info.group[0] in self.story.pools:
                 yield info_line(info, epochs)
                 log = self.log.get((info.group, info.member[0]), [])
                 yield from entries_lines(info, log, epochs)
-                if info.log_tail != info.last_update and not any(group == info.group for group, _ in self.log):
+                if info.log_tail != info.last_update and info.group not in self.logged:
                     told = "log entries (ceph-objectstore-tool --op log), without which a group whose log isn't empty is NeedLog"
                     self.notes.tell(told, group_text(info.group))
 
@@ -209,24 +212,51 @@ class Writer:
 class ActingSets:
     """The acting sets of a script in which they are Ceph's."""
 
-    def __init__(self, writer: Writer, epochs: Epochs):
-        self.writer, self.story = writer, writer.story
-        self.lists: Dict[Group, Places] = {}
+    def __init__(self, writer: Writer):
+        self.story = writer.story
+        self.lists: Dict[Group, Places] = {}  # the pg_temp lists of the script
+        self.told: Dict[Group, Places] = {}  # where groups lie, as a script has it
+        self.dumped: Dict[Group, Where] = {}  # where they lay in the last dump of groups
+        self.again: Dict[Group, Where] = {}  # what is to be taken once more: of pools that the script hasn't yet, and what
+        self.up: Set[int] = set()            # was told since the last dump
+        for epoch, sets in sorted(self.story.dumps.sets.items()):
+            self.dumped.update(sets if epoch <= self.story.first else {})
         for temp in writer.first_sets(list(writer.base.pools.values())):
-            self.lists[temp.pool, temp.pg] = temp.osds
+            self.lists[temp.pool, temp.pg] = self.told[temp.pool, temp.pg] = temp.osds
 
     def temps(self, epoch: int, lawful: Lawful) -> List[List[Any]]:
         """The pg_temp lists of an epoch: those of groups that don't lie where Ceph has them."""
         found = []
-        for group, where in sorted(self.story.sets.get(epoch, {}).items()):
+        for group in sorted(self.touched(epoch, lawful)):
+            if group in self.told and self.told[group] != self.filtered(group, lawful.pools[group[0]], lawful.up):
+                self.lists[group] = self.told[group]
+                found.append([*group, self.told[group]])
+        return found
+
+    def touched(self, epoch: int, lawful: Lawful) -> Set[Group]:
+        """Takes what is told in an epoch; gives the groups whose lists may no longer be right. A dump of groups has those alone
+        that lie otherwise than in the one before."""
+        news = self.story.sets.get(epoch, {})
+        if epoch not in self.story.dumps.sets:
+            self.take(news, lawful)
+            self.again.update((group, self.dumped[group]) for group in news if group in self.dumped)
+            return set(news)
+        self.dumped.update(news)
+        news, self.again = {**self.again, **news}, {}
+        self.take(news, lawful)
+        booted, self.up = lawful.up - self.up, set(lawful.up)
+        return {*news, *(group for group, places in self.lists.items() if booted and not booted.isdisjoint(places))}
+
+    def take(self, news: Dict[Group, Where], lawful: Lawful) -> None:
+        for group, where in news.items():
             pool = lawful.pools.get(group[0])
+            self.told.pop(group, None)
             if pool is None or group[1] >= pool.pg_num:
+                self.again[group] = where
                 continue
             places = carried(group, pool, where, self.story.notes)
-            if places is not None and places != self.filtered(group, pool, lawful.up):
-                self.lists[group] = places
-                found.append([*group, places])
-        return found
+            if places is not None:
+                self.told[group] = places
 
     def filtered(self, group: Group, pool: Pool, up: Set[int]) -> Places:
         places = [osd if osd in up else None for osd in self.lists.get(group, [])]

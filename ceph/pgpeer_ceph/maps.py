@@ -1,7 +1,7 @@
 """Reads devices, pools and pg_temp lists of a Ceph cluster's map, and tells what a script has no key for."""
 
 import re
-from typing import Iterable, List, NamedTuple, Optional, Set, Tuple
+from typing import Dict, Iterable, List, NamedTuple, Optional, Set, Tuple
 
 from .nodes import Node, Unusable
 from .notes import Notes
@@ -82,10 +82,14 @@ class Temp(NamedTuple):
 # Reading
 
 
-def read_devices(osdmap: Node, notes: Notes) -> List[Device]:
+def read_devices(osdmap: Node, notes: Notes, known: Optional[Dict[int, Device]] = None) -> List[Device]:
+    """The devices of a map; those of one value that many maps have are read once, and are in `known` by the id of that."""
     devices, seen = [], set()
+    read = {} if known is None else known
     for osd in osdmap.key("osds").items():
-        device = read_device(osd)
+        if id(osd.value) not in read:
+            read[id(osd.value)] = read_device(osd)
+        device = read[id(osd.value)]
         if device.id in seen:
             raise Unusable(f"{osd.where}.osd is {device.id}, which is twice in the list")
         seen.add(device.id)

@@ -124,8 +124,7 @@ def renumbered(dumps: Dumps, numbers: Numbers) -> Dumps:
     queries = [query_under(query, numbers) for query in dumps.queries if read_group(query.key("info").key("pgid")) in numbers.scripts]
     logs = [(osd, group_text(numbers.scripts[group]), node) for osd, name, node in dumps.logs
             for group in [read_group(Node(name, node.where))] if group in numbers.scripts]
-    sets = {epoch: sets_under(epoch, dumps, numbers) for epoch in dumps.sets}
-    return replace(dumps, maps=maps, stats=stats, queries=queries, logs=logs, sets=sets)
+    return replace(dumps, maps=maps, stats=stats, queries=queries, logs=logs, sets=sets_under(dumps, numbers))
 
 
 def map_of(osdmap: Node, numbers: Numbers) -> Dict[str, Any]:
@@ -155,14 +154,29 @@ def info_under(info: Node, numbers: Numbers) -> Dict[str, Any]:
     return {**info.value, "pgid": group_text(numbers.scripts[read_group(info.key("pgid"))]) + (shard[0] if shard else "")}
 
 
-def sets_under(epoch: int, dumps: Dumps, numbers: Numbers) -> Dict[Group, Where]:
-    """Where groups lie in an epoch; a group that wasn't there yet, where its parent does."""
-    before = max((it for it in dumps.maps if it <= epoch), default=min(dumps.maps))
-    counts, sets, found = pools_of(dumps.maps[before]), dumps.sets[epoch], {}
+def sets_under(dumps: Dumps, numbers: Numbers) -> Dict[int, Dict[Group, Where]]:
+    """Where groups lie by epoch, as the dumps tell; a group that wasn't there yet, where its parent does."""
+    now: Dict[Group, Where] = {}
+    found: Dict[int, Dict[Group, Where]] = {}
+    counts: Dict[int, int] = {}
+    children: Dict[Group, List[Group]] = {}
+    for epoch, sets in sorted(dumps.sets.items()):
+        now.update(sets)
+        before = max((it for it in dumps.maps if it <= epoch), default=min(dumps.maps))
+        is_other = not children or pools_of(dumps.maps[before]) != counts
+        if is_other:
+            counts = pools_of(dumps.maps[before])
+            children = children_of(counts, numbers)
+        changed = now if is_other else sets
+        found[epoch] = {script: where for group, where in changed.items() for script in children.get(group, ())}
+    return found
+
+
+def children_of(counts: Dict[int, int], numbers: Numbers) -> Dict[Group, List[Group]]:
+    """The script's groups by those of Ceph's in which their objects are while pools have so many."""
+    found: Dict[Group, List[Group]] = {}
     for script, (pool, seed) in numbers.cephs.items():
-        where = sets.get((pool, parent(seed, counts.get(pool, 0))))
-        if where is not None:
-            found[script] = where
+        found.setdefault((pool, parent(seed, counts.get(pool, 0))), []).append(script)
     return found
 
 

@@ -4,7 +4,7 @@ from typing import Any, Dict, Iterator, List, NamedTuple, Set, Tuple
 
 from .changes import Snapshot
 from .folder import Dumps, version_of
-from .maps import Group, Places, group_text, read_devices, read_group, read_pools, read_temps, tell_map
+from .maps import Device, Group, Places, group_text, read_devices, read_group, read_pools, read_temps, tell_map
 from .nodes import MOST, Node, Unusable
 from .notes import Notes
 from .reports import (Info, Query, Version, infos_of_stats, is_active, latest_of, read_log, read_query, read_stopped,
@@ -43,6 +43,7 @@ class Story:
         if not maps:
             raise Unusable("there is no map of the epochs that are wanted")
         self.latest = max(maps)
+        self.read: Dict[int, Device] = {}
         self.crush = self.read_trees()
         self.snapshots = [self.snapshot(epoch, node) for epoch, node in maps.items()]
         self.pools = {pool.id: pool for snapshot in self.snapshots for pool in snapshot.pools.values()}
@@ -62,7 +63,7 @@ class Story:
     def snapshot(self, epoch: int, node: Node) -> Snapshot:
         pools = [pool for pool in read_pools(node, self.notes) if not self.wanted.pools or pool.id in self.wanted.pools]
         pools = within_all_groups(pools, self.notes)
-        devices = {device.id: device for device in read_devices(node, self.notes)}
+        devices = {device.id: device for device in read_devices(node, self.notes, self.read)}
         temps = {(temp.pool, temp.pg): temp.osds for temp in read_temps(node, pools, self.notes)}
         changed = {it.key("pool").whole(): it.count_of("last_change") for it in node.key("pools").items()}
         tell_map(node, {pool.id for pool in pools}, self.notes)
@@ -77,17 +78,25 @@ class Story:
                     self.notes.tell(FEWER, f"{group_text(query.group)} in epochs {past.first} to {past.last}")
 
     def read_sets(self) -> Dict[int, Dict[Group, Where]]:
-        """Where groups lie, by the epochs in which they came to lie there, as far as dumps tell."""
+        """Where groups lie, by the epochs in which they came to lie there, as far as dumps tell: in an epoch whose groups were
+        dumped by that, as it has the order of each set."""
         found = {epoch: dict(sets) for epoch, sets in self.dumps.sets.items()}
+        dumped = {group for sets in found.values() for group in sets}
+
+        def tell(epoch: int, group: Group, where: Where) -> None:
+            if epoch not in self.dumps.sets or group not in dumped:
+                found.setdefault(epoch, {})[group] = where
+
+        for query in self.queries:
+            pool = self.pools[query.group[0]]
+            for past in query.past:
+                tell(past.first, query.group, where_of_past(past, pool.size, pool.k is not None))
         for dump in self.dumps.stats:
             sets = dumped_sets(dump)
             for group, where in sets.where.items():
-                found.setdefault(sets.since[group], {})[group] = where
+                tell(sets.since[group], group, where)
         for query in self.queries:
-            found.setdefault(query.since, {})[query.group] = where_of(query)
-            for past in query.past:
-                size = self.pools[query.group[0]].size
-                found.setdefault(past.first, {}).setdefault(query.group, where_of_past(past, size, bool(self.pools[query.group[0]].k)))
+            tell(query.since, query.group, where_of(query))
         return found
 
     def first_epoch(self) -> int:
