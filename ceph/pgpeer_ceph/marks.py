@@ -4,20 +4,20 @@ from html import escape
 from typing import Dict
 
 LETTERS = {"Serve": "S", "NeedUpThru": "U", "NeedLog": "L", "Short": "F", "Incomplete": "I", "Waiting": "W", "Down": "D",
-           "NoPrimary": "N"}
+           "NoPrimary": "N", "Unknown": "?"}
 
 LIGHT = {
     "page": "#ffffff", "text": "#1b2128", "soft": "#56616d", "line": "#dfe4ea", "axis": "#9aa4af",
     "wrote": "#2f6fb5", "on-wrote": "#ffffff", "idle": "#8a95a2", "on-idle": "#1b2128", "now": "#d9c8f2", "now-edge": "#6d3fb0",
     "on-now": "#2b1650", "band": "#f6f1fd", "Serve": "#1f7a4a", "NeedUpThru": "#37738f", "NeedLog": "#776a12", "Short": "#a85400",
-    "Incomplete": "#a8321c", "Waiting": "#8a6100", "Down": "#b3202c", "NoPrimary": "#555e68", "on-verdict": "#ffffff",
+    "Incomplete": "#a8321c", "Waiting": "#8a6100", "Down": "#b3202c", "NoPrimary": "#555e68", "Unknown": "#e3e7ec", "on-Unknown": "#56616d", "on-verdict": "#ffffff",
     "blocks": "#b3202c", "unheard": "#b37d0a", "boots": "#1f7a4a", "falls": "#b3202c",
 }
 DARK = {
     "page": "#14181d", "text": "#e8ecf1", "soft": "#a4afbb", "line": "#2a313a", "axis": "#66717d",
     "wrote": "#5b9be0", "on-wrote": "#0b1622", "idle": "#5f6c7a", "on-idle": "#ffffff", "now": "#4a3670", "now-edge": "#b692f0",
     "on-now": "#f3ebff", "band": "#1d1828", "Serve": "#4cc38a", "NeedUpThru": "#6fb7d8", "NeedLog": "#cdbb4a", "Short": "#f0a050",
-    "Incomplete": "#f08a6c", "Waiting": "#e8b64c", "Down": "#f2727c", "NoPrimary": "#9aa4af", "on-verdict": "#0f1317",
+    "Incomplete": "#f08a6c", "Waiting": "#e8b64c", "Down": "#f2727c", "NoPrimary": "#9aa4af", "Unknown": "#2a313a", "on-Unknown": "#a4afbb", "on-verdict": "#0f1317",
     "blocks": "#f2727c", "unheard": "#e8b64c", "boots": "#4cc38a", "falls": "#f2727c",
 }
 
@@ -32,6 +32,7 @@ def rules(colour: Dict[str, str]) -> str:
         f".now{{fill:{colour['now']};stroke:{colour['now-edge']}}} .edge{{stroke:{colour['now-edge']}}}",
         f".on-wrote{{fill:{colour['on-wrote']}}} .on-idle{{fill:{colour['on-idle']}}} .on-now{{fill:{colour['on-now']}}}",
         f".alone{{stroke:{colour['soft']}}} .on-verdict{{fill:{colour['on-verdict']}}}",
+        f".on-Unknown{{fill:{colour['on-Unknown']}}}",
         f".blocks{{fill:{colour['blocks']}}} .unheard{{stroke:{colour['unheard']}}}",
         f".boots{{fill:{colour['boots']}}} .falls{{fill:{colour['falls']}}}",
         *(f".{verdict}{{fill:{colour[verdict]}}}" for verdict in LETTERS),
@@ -42,7 +43,7 @@ def rules(colour: Dict[str, str]) -> str:
 def style() -> str:
     return f"""<style>
 text{{font-family:system-ui,"DejaVu Sans",Arial,sans-serif;font-size:12px}}
-.title{{font-size:16px;font-weight:600}} .small{{font-size:10px}} .mid{{text-anchor:middle}} .end{{text-anchor:end}}
+.title{{font-size:16px;font-weight:600}} .helps{{font-size:14px;font-weight:600}} .small{{font-size:10px}} .mid{{text-anchor:middle}} .end{{text-anchor:end}}
 .clear{{fill-opacity:0}} .now{{stroke-width:1.5}} .alone,.unheard{{fill:none;stroke-width:1.5}} .alone{{stroke-dasharray:3 2}}
 .edge{{stroke-width:1.5;stroke-dasharray:5 3}}
 {rules(LIGHT)}

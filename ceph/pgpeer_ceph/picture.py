@@ -3,9 +3,9 @@
 The picture has one column for each entry, from left to right, under the epoch of its map. At the top each device that was
 ever in up or acting has a row, with a bar where it stood in acting: its colour says whether the interval may have gone
 read-write, a line in it that only a report says so, and the current interval stands apart. Below stand the verdicts, and for
-whom the group waits: devices that are down and block it, and devices that have yet to be heard. At the head and at the foot
-stands what `pgpeer explain` says of the group after the last entry: why it doesn't serve, and what brings it back. The last
-column's marks follow that too. Beyond 200 columns runs of entries that change nothing for the group are folded, and then the
+whom the group waits: devices that are down and block it, and devices that have yet to be heard. The verdict is unknown where no
+report of the interval was kept so far. At the head stands what `pgpeer explain` says of the group after the last entry: why it
+doesn't serve, and what brings it back; at the foot, what losses would. The last column's marks follow that too. Beyond 200 columns runs of entries that change nothing for the group are folded, and then the
 oldest, but never the intervals that block the group, the last that may have gone read-write, or (as many as have room) others
 whose members have to be heard.
 """
@@ -19,15 +19,15 @@ from typing import Any, Dict, Iterator, List, Optional, Tuple
 from .columns import folded
 from .epochs import Epochs
 from .marks import LETTERS, line, rect, room_for, style, text, triangle
-from .steps import Group, Span, Step
-from .words import at_end, reason
+from .steps import UNKNOWN, Group, Span, Step
+from .words import at_end, ending, lost_text, reason
 
 LEFT, RIGHT, TOP = 84, 24, 66  # TOP with one line of words at the head
 ROW, BAR, WORDS = 26, 14, 18  # heights
 MOST_LINES = 5  # of words at the head, and at the foot
 STRIP, WAIT = 24, 16
 LEAST_WIDTH = 760
-MARKS = {"inc": "m", "info": "i", "entries": "e", "close": "c"}
+FOLDED = "\u2026"  # under a column that stands for several entries
 
 
 class Picture:
@@ -43,13 +43,15 @@ class Picture:
         self.wide = max(12.0, min(84.0, 700 / len(self.columns)))
         self.width = max(LEAST_WIDTH, self.x(len(self.columns)) + RIGHT)
         self.head = self.wrapped(f"At the end: {at_end(group.steps[-1], group.pool, group.why)}")
-        self.foot = self.wrapped(group.why.back() if group.why else "")
+        self.helps = self.wrapped(ending(group.why) if group.why else "", 8.7)
+        self.foot = self.wrapped(lost_text(group.why) if group.why else "")
         self.rows = sorted({osd for span in self.spans if self.places[span.first] for osd in span.devices()})
         self.has_empty = any(None in span.acting for span in self.spans if self.places[span.first])
         self.waited = sorted({osd for at in range(len(self.columns)) for osd in self.waits_at(at)})
-        self.top = TOP + WORDS * (len(self.head) - 1)
+        self.has_folded = any(len(it.steps) > 1 and not it.is_mixed() for it in self.columns)
+        self.top = TOP + WORDS * (len(self.head) - 1) + (WORDS * len(self.helps) + 6 if self.helps else 0)
         self.strip_y = self.top + ROW * (len(self.rows) + self.has_empty) + 28
-        self.waits_y = self.strip_y + STRIP + (40 if self.waited else 22)
+        self.waits_y = self.strip_y + STRIP + (26 if self.waited else 8) + (14 if self.has_folded else 0)
         self.foot_y = self.waits_y + WAIT * len(self.waited) + 16
         self.legend_y = self.foot_y + WORDS * len(self.foot) + (4 if self.foot else 0)
 
@@ -79,15 +81,17 @@ class Picture:
         yield text(right, 25, self.cut(self.group.pool.text(), right), "soft")
         for at, words in enumerate(self.head):
             yield text(16, 45 + WORDS * at, words)
+        for at, words in enumerate(self.helps, len(self.head)):
+            yield text(16, 48 + WORDS * at, words, "helps")
 
     def feet(self) -> Iterator[str]:
-        """What brings the group back."""
+        """What losses would end, and give up."""
         for at, words in enumerate(self.foot):
-            yield text(16, self.foot_y + 10 + WORDS * at, words)
+            yield text(16, self.foot_y + 10 + WORDS * at, words, "soft")
 
-    def wrapped(self, words: str) -> List[str]:
+    def wrapped(self, words: str, wide: float = 7.44) -> List[str]:
         """The words in as many lines as they need; what has no room in the last that there may be is left out."""
-        return textwrap.wrap(words, int((self.width - 32) / 7.44), max_lines=MOST_LINES, placeholder="\u2026")
+        return textwrap.wrap(words, int((self.width - 32) / wide), max_lines=MOST_LINES, placeholder="\u2026")
 
     def cut(self, words: str, x: float) -> str:
         """The words, as far as there is room to the right of x."""
@@ -176,24 +180,23 @@ class Picture:
     def verdicts(self) -> Iterator[str]:
         """The strip of verdicts: runs of one verdict, with its name, or its letter where there is no room."""
         yield text(LEFT - 10, self.strip_y + 16, "verdict", "end")
-        yield text(LEFT - 10, self.strip_y + STRIP + 12, "entry", "end soft")
         for first, count, verdict in self.verdict_runs():
             x, wide = self.x(first), self.wide * count
             yield rect(x + 0.5, self.strip_y, wide - 1, STRIP, verdict, "", 2)
             words = verdict if self.has_room(verdict, count) else LETTERS[verdict]
-            yield text(x + wide / 2, self.strip_y + 16, words, "mid on-verdict")
+            yield text(x + wide / 2, self.strip_y + 16, words, f"mid on-{UNKNOWN if verdict == UNKNOWN else 'verdict'}")
         for at, column in enumerate(self.columns):
             if column.is_mixed():
                 continue
             tip = f"epoch {self.named.text(column.epochs()[1])}, {self.reason_at(at)}"
             yield rect(self.x(at), self.strip_y, self.wide, STRIP, "clear", tip)
-            mark = MARKS[column.step().op] if len(column.steps) == 1 else "\u2026"
-            yield text(self.x(at + 0.5), self.strip_y + STRIP + 12, mark, "small mid soft")
+            if len(column.steps) > 1:
+                yield text(self.x(at + 0.5), self.strip_y + STRIP + 12, FOLDED, "small mid soft")
 
     def verdict_runs(self) -> Iterator[Tuple[int, int, str]]:
         """The runs of columns of one verdict: the first column, how many they are, the verdict."""
         at = 0
-        for verdict, run in itertools.groupby("" if it.is_mixed() else it.step().view["verdict"] for it in self.columns):
+        for verdict, run in itertools.groupby("" if it.is_mixed() else it.step().verdict() for it in self.columns):
             count = len(list(run))
             if verdict:
                 yield at, count, verdict
@@ -287,12 +290,8 @@ class Picture:
         for verdict in LETTERS:
             if verdict in short:
                 yield self.letter(verdict), verdict
-        for op, mark in MARKS.items():
-            if any(step.op == op for step in self.group.steps):
-                words = {"inc": "map", "info": "info", "entries": "log entries", "close": "close"}[op]
-                yield self.mark(mark), words
-        if any(len(column.steps) > 1 and not column.is_mixed() for column in self.columns):
-            yield self.mark("\u2026"), "entries that change nothing here"
+        if self.has_folded:
+            yield self.mark(FOLDED), "entries that change nothing here"
 
     @staticmethod
     def mark(words: str) -> Any:
@@ -301,12 +300,12 @@ class Picture:
     @staticmethod
     def letter(verdict: str) -> Any:
         def sample(x: float, y: float) -> str:
-            return rect(x + 1, y, 15, 13, verdict, "", 2) + text(x + 8.5, y + 10, LETTERS[verdict], "small mid on-verdict")
+            return rect(x + 1, y, 15, 13, verdict, "", 2) + text(x + 8.5, y + 10, LETTERS[verdict], f"small mid on-{UNKNOWN if verdict == UNKNOWN else 'verdict'}")
 
         return sample
 
 
 def waited_by(step: Step) -> Dict[int, str]:
     """For which devices the group waits after a step, and how."""
-    waits = {osd: "unheard" for osd, _ in step.unheard} if step.view["verdict"] == "Waiting" else {}
+    waits = {osd: "unheard" for osd, _ in step.unheard} if step.verdict() == "Waiting" else {}
     return {**waits, **{osd: "blocks" for osd in step.view["blocked_by"]}}

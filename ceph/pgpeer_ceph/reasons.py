@@ -31,17 +31,6 @@ class Reasons(NamedTuple):
         unheard = self.unheard if self.verdict == "Waiting" else []
         return {**{osd: "unheard" for osd, _ in unheard}, **{osd: "blocks" for it in self.blocking for osd in it["down"]}}
 
-    def back(self) -> str:
-        """What brings the group back, in one sentence; empty where no interval blocks it. One that blocks a group of another
-        verdict than Down is still to come."""
-        head = "What brings it back" if self.verdict == "Down" else "It would be down, too; what ends that"
-        ways = []
-        if self.starts["sets"]:
-            ways.append(f"start {sets_text(self.starts)}")
-        if self.losses["sets"]:
-            ways.append(f"giving up what was written in {epochs_text(self.blocking, self.epochs)}, declare lost {sets_text(self.losses)}")
-        return f"{head}: {'; or, '.join(ways)}." if ways else ""
-
 
 def together(names: Iterable[str]) -> str:
     """Names as a list in words."""

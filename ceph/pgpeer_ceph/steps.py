@@ -14,6 +14,7 @@ from .reasons import Reasons, explained
 
 ENTRIES = ("inc", "info", "entries", "close")
 MOST_EPOCH = 2**32 - 1
+UNKNOWN = "Unknown"  # in the place of a verdict
 
 Member = Tuple[int, int]  # a device and its slot
 Entry = Tuple[int, str, Dict[str, Any]]  # the number of its line, its text and its value
@@ -35,9 +36,14 @@ class Step(NamedTuple):
     view: View
     unheard: List[Member]
 
+    def verdict(self) -> str:
+        """The verdict, unknown where the group waits to hear from all and no report of the interval was kept so far."""
+        is_unknown = self.view["verdict"] == "Waiting" and len(self.unheard) == len(self.view["probe"])
+        return UNKNOWN if is_unknown else str(self.view["verdict"])
+
     def state(self) -> Tuple[Any, ...]:
         """What the picture shows of the group after the entry."""
-        return self.view["first"], self.view["verdict"], self.view["blocked_by"], self.unheard
+        return self.view["first"], self.verdict(), self.view["blocked_by"], self.unheard
 
 
 class Span(NamedTuple):

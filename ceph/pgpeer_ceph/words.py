@@ -3,7 +3,7 @@
 from typing import Any, Dict, Iterable, Optional, Sequence
 
 from .reasons import Reasons, epochs_text, sets_text, together
-from .steps import Pool, Step
+from .steps import UNKNOWN, Pool, Step
 
 
 def osds_text(osds: Iterable[int]) -> str:
@@ -16,9 +16,10 @@ def member_text(member: Sequence[int], pool: Pool) -> str:
 
 def reason(step: Step, pool: Pool) -> str:
     """The verdict in words, and why."""
-    view, verdict = step.view, step.view["verdict"]
+    view, verdict = step.view, step.verdict()
     primary = view["acting_primary"]
     why = {
+        UNKNOWN: "no report of this interval was kept so far",
         "NoPrimary": "no device of the acting set is up",
         "Down": f"writes may be on {osds_text(view['blocked_by'])} alone, which may come back",
         "Waiting": f"not heard yet: {', '.join(member_text(it, pool) for it in step.unheard)}",
@@ -33,7 +34,7 @@ def reason(step: Step, pool: Pool) -> str:
 
 def at_end(step: Step, pool: Pool, why: Optional[Reasons]) -> str:
     """The verdict after the last step and why, as the program explains it."""
-    return reason(step, pool) if why is None else f"{why.verdict}. {why.says}"
+    return reason(step, pool) if why is None or step.verdict() == UNKNOWN else f"{why.verdict}. {why.says}"
 
 
 def short(view: Dict[str, Any], pool: Pool) -> str:

@@ -22,7 +22,7 @@ SVG = "{http://www.w3.org/2000/svg}"
 def step(epoch, first=1, acting=(0, 1, 2), verdict="Serve", blocked=(), unheard=(), intervals=(), op="inc"):
     """A step with such an answer."""
     primary = next((it for it in acting if it is not None), None)
-    view = {"epoch": epoch, "first": first, "acting": list(acting), "up": list(acting), "acting_primary": primary, "verdict": verdict, "blocked_by": list(blocked), "intervals": list(intervals), "missing": [], "best": None}
+    view = {"epoch": epoch, "first": first, "acting": list(acting), "up": list(acting), "acting_primary": primary, "verdict": verdict, "blocked_by": list(blocked), "intervals": list(intervals), "missing": [], "best": None, "probe": [*unheard, (99, 0)]}
     return Step(op, [], view, list(unheard))
 
 
@@ -172,6 +172,19 @@ class Bars(unittest.TestCase):
         self.assertEqual(pictures.waited_by(step(1, verdict="Waiting", unheard=[(3, 0)])), {3: "unheard"})
         self.assertEqual(pictures.waited_by(step(1, verdict="NoPrimary", unheard=[(3, 0)])), {})
 
+    def test_it_is_unknown_where_no_report_of_the_interval_was_kept(self):
+        steps = [step(1, verdict="Waiting", unheard=[(0, 0), (1, 0)]), step(2, verdict="Waiting", unheard=[(0, 0)]), step(3)]
+        steps[0].view["probe"] = [(0, 0), (1, 0)]
+        self.assertEqual([it.verdict() for it in steps], ["Unknown", "Waiting", "Serve"])
+        root = drawn(steps)
+        self.assertIn("epoch 1, Unknown: no report of this interval was kept so far", [it.text for it in root.iter(f"{SVG}title")])
+        self.assertEqual([it.find(f"{SVG}title").text for it in marks(root, "unheard")], ["osd.0 has yet to be heard"])
+        self.assertEqual(drawn(steps[:1]).find(f".//{SVG}text[3]").text, "At the end: Unknown: no report of this interval was kept so far")
+
+    def test_entries_have_no_letters(self):
+        words = [it.text for it in drawn([step(1), step(1, op="info"), step(2, op="entries"), step(3, op="close")]).iter(f"{SVG}text")]
+        self.assertFalse({"m", "i", "e", "c", "entry", "map", "info", "log entries", "close"} & set(words), words)
+
     def test_shards_and_empty_places_are_told(self):
         erasure = Pool("erasure", 2, 3, 2)
         words = [node.text for node in drawn([step(1, acting=[4, None, 5])], erasure).iter(f"{SVG}text")]
@@ -231,7 +244,8 @@ class Bars(unittest.TestCase):
         for scheme in (svg.LIGHT, svg.DARK):
             pairs = [("text", "page"), ("soft", "page"), ("text", "band")]
             pairs += [(f"on-{kind}", kind) for kind in ("wrote", "idle", "now")]
-            for ink, ground in pairs + [("on-verdict", verdict) for verdict in svg.LETTERS]:
+            inks = [("on-Unknown" if verdict == "Unknown" else "on-verdict", verdict) for verdict in svg.LETTERS]
+            for ink, ground in pairs + inks:
                 self.assertGreaterEqual(contrast(scheme[ink], scheme[ground]), 4.5, (ink, ground))
             for shape in ("wrote", "idle", "now-edge", "blocks", "unheard", "boots", "falls"):
                 self.assertGreaterEqual(contrast(scheme[shape], scheme["page"]), 3, shape)

@@ -14,6 +14,7 @@ from pgpeer_ceph.epochs import Epochs
 from pgpeer_ceph.marks import room_for
 from pgpeer_ceph.nodes import Unusable
 from pgpeer_ceph.steps import Group, followed
+from pgpeer_ceph.words import ending, lost_text
 
 BLOCKING = [{"first": 3, "last": 4, "down": [0, 1], "lacks": 1, "acting": [0, 1], "clean": None}]
 DOWN = "It waits for osd.0 and osd.1, which are down: writes may have been taken in epochs 3 to 4, and too few of those who took them are at hand."
@@ -59,13 +60,13 @@ class Words(unittest.TestCase):
         spans = [{"first": 2 * at, "last": 2 * at} for at in range(1, 9)]
         self.assertEqual(group_reasons.epochs_text(spans), "epochs 2, 4, 6, 8, 10, and later ones")
 
-    def test_what_brings_a_group_back(self):
-        wanted = "What brings it back: start osd.0, or osd.1; or, giving up what was written in epochs 3 to 4, declare lost osd.0, or osd.1."
-        self.assertEqual(reasons().back(), wanted)
-        self.assertEqual(reasons(losses=ways()).back(), "What brings it back: start osd.0, or osd.1.")
-        self.assertEqual(reasons(verdict="Waiting", blocking=[], starts=ways(), losses=ways()).back(), "")
-        wanted = "It would be down, too; what ends that: start osd.0, or osd.1."
-        self.assertEqual(reasons(verdict="NoPrimary", losses=ways()).back(), wanted)
+    def test_what_ends_down(self):
+        self.assertEqual(ending(reasons()), "What ends Down: start osd.0, or osd.1")
+        self.assertEqual(ending(reasons(verdict="NoPrimary")), "It would be Down, too; what ends that: start osd.0, or osd.1")
+        wanted = "Last resort, with no way back: declare lost osd.0, or osd.1, which gives up what was written in epochs 3 to 4 at least"
+        self.assertEqual(lost_text(reasons(starts=ways())), wanted)
+        none = reasons(verdict="Waiting", blocking=[], starts=ways(), losses=ways())
+        self.assertEqual((ending(none), lost_text(none)), ("", ""))
 
     def test_for_whom_a_group_waits(self):
         self.assertEqual(reasons().waits(), {0: "blocks", 1: "blocks"})
@@ -80,26 +81,33 @@ class Pictures(unittest.TestCase):
         root = xml.fromstring(picture(self.STEPS, reasons()).svg())
         words = " ".join(words_of(root))
         self.assertIn(f"At the end: Down. {DOWN}", words)
-        self.assertIn(reasons().back(), words)
+        self.assertIn(ending(reasons()), words)
+        self.assertIn(lost_text(reasons()), words)
         self.assertGreater(len(words_of(root)), 4)
+
+    def test_what_helps_stands_above_the_chart_and_losses_below(self):
+        drawing = picture(self.STEPS, reasons())
+        places = {node.text: float(node.get("y")) for node in xml.fromstring(drawing.svg()).iter("{http://www.w3.org/2000/svg}text")}
+        self.assertLess(places[ending(reasons())], drawing.top - 12)
+        self.assertGreater(places[drawing.foot[0]], drawing.waits_y)
 
     def test_what_is_written_has_room(self):
         drawing = picture(self.STEPS, reasons())
-        for words in drawing.head + drawing.foot:
-            self.assertLess(16 + room_for(words), drawing.width)
+        for words, size in [*((it, 12) for it in drawing.head + drawing.foot), *((it, 14) for it in drawing.helps)]:
+            self.assertLess(16 + room_for(words, size), drawing.width)
         self.assertLess(drawing.waits_y + pictures.WAIT * len(drawing.waited), drawing.foot_y)
         self.assertLess(drawing.foot_y + pictures.WORDS * (len(drawing.foot) - 1) + 10, drawing.legend_y)
-        self.assertEqual(drawing.top, pictures.TOP + pictures.WORDS * (len(drawing.head) - 1))
+        self.assertEqual(drawing.top, pictures.TOP + pictures.WORDS * (len(drawing.head) + len(drawing.helps) - 1) + 6)
 
     def test_what_has_no_room_is_left_out(self):
         drawing = picture(self.STEPS, reasons(starts=ways(*((osd, osd + 1) for osd in range(100)))))
-        self.assertEqual(len(drawing.foot), pictures.MOST_LINES)
-        self.assertTrue(drawing.foot[-1].endswith("\u2026"))
+        self.assertEqual(len(drawing.helps), pictures.MOST_LINES)
+        self.assertTrue(drawing.helps[-1].endswith("\u2026"))
 
     def test_nothing_stands_at_the_foot_of_a_group_that_serves(self):
         why = reasons(verdict="Serve", says="It serves, led by osd.0.", blocking=[], starts=ways(), losses=ways())
         drawing = picture([step(1)], why)
-        self.assertEqual((drawing.head, drawing.foot), (["At the end: Serve. It serves, led by osd.0."], []))
+        self.assertEqual((drawing.head, drawing.helps, drawing.foot), (["At the end: Serve. It serves, led by osd.0."], [], []))
         self.assertEqual(drawing.foot_y, drawing.legend_y)
 
     def test_who_lacks_something_where_it_serves_is_told_in_the_words_of_the_program(self):
