@@ -2,14 +2,16 @@
 
 import shlex
 import subprocess
-import time
-from typing import Any, Callable, List, NamedTuple
+import threading
+from typing import Any, Callable, List, NamedTuple, Set
 
 from .nodes import Node, Unusable, parsed
 
 SECONDS = 30  # for one command
 TRIES = 3
 PAUSE = 0.5  # seconds before the second try, twice as many before the third
+RUNNING: Set["subprocess.Popen[bytes]"] = set()
+ENDING = threading.Event()  # set once no command is begun or tried again
 
 
 class NoAnswer(Unusable):
@@ -51,21 +53,37 @@ def tried(call: Callable[[], Any], tries: int = TRIES) -> Any:
         except NoCommand:
             raise
         except Unusable as fault:
-            if passed == tries:
+            if passed == tries or ENDING.wait(PAUSE * passed):
                 raise NoAnswer(str(fault)) from fault
-            time.sleep(PAUSE * passed)
     raise AssertionError("no try")
 
 
 def printed(words: List[str], seconds: float = SECONDS) -> bytes:
     """What a command prints."""
+    if ENDING.is_set():
+        raise NoAnswer(f"`{shlex.join(words)}` wasn't begun")
     try:
-        run = subprocess.run(words, capture_output=True, stdin=subprocess.DEVNULL, timeout=seconds)
+        run = subprocess.Popen(words, stdin=subprocess.DEVNULL, stdout=subprocess.PIPE, stderr=subprocess.PIPE)
     except OSError as fault:
         raise NoCommand(f"{words[0]}: {fault.strerror}") from fault
+    RUNNING.add(run)
+    try:
+        out, errors = run.communicate(timeout=seconds)
     except subprocess.TimeoutExpired as fault:
         raise NoAnswer(f"`{shlex.join(words)}` had no answer within {seconds:.0f} seconds") from fault
+    finally:
+        RUNNING.discard(run)
+        if run.poll() is None:
+            run.kill()
+            run.communicate()
     if run.returncode != 0:
-        lines = run.stderr.decode(errors="replace").strip().splitlines() or ["no word"]
+        lines = errors.decode(errors="replace").strip().splitlines() or ["no word"]
         raise NoAnswer(f"`{shlex.join(words)}` ended with {run.returncode}: {lines[-1]}")
-    return run.stdout
+    return out
+
+
+def end_all() -> None:
+    """Ends the commands that run, and has none begin."""
+    ENDING.set()
+    for run in list(RUNNING):
+        run.terminate()

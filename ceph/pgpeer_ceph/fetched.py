@@ -116,7 +116,8 @@ class FetchedMaps:
             firsts.setdefault(self.versions[epoch], epoch)
         there = {self.versions.get(epoch) for epoch in self.versions if self.folder.kept(f"{epoch}.crush.json") is not None}
         lacking = {version: epoch for version, epoch in firsts.items() if version not in there}
-        self.fetch_last_tree(lacking)
+        if lacking:
+            self.fetch_last_tree(lacking)
         for epoch in lacking.values():
             self.fetch_tree(epoch)
 
