@@ -60,7 +60,7 @@ build() {
 pack() {
     command -v python3 >/dev/null || fail 1 "there is no python3"
     mkdir -- "$1/pgpeer_ceph"
-    cp -- "$root"/ceph/pgpeer_ceph/*.py "$1/pgpeer_ceph"
+    cp -r -- "$root"/ceph/pgpeer_ceph/*.py "$root/ceph/pgpeer_ceph/page" "$1/pgpeer_ceph"
     rm -- "$1/pgpeer_ceph/__main__.py"
     python3 -m zipapp "$1" --compress --main pgpeer_ceph.cli:main --python "${PYTHON:-/usr/bin/env python3}" --output "$2"
 }

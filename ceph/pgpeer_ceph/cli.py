@@ -4,7 +4,7 @@ import argparse
 import sys
 from typing import List, Optional
 
-from . import __doc__ as about, __version__, draw, explain, fetch, plan, record, script, single_map, what_if
+from . import __doc__ as about, __version__, draw, explain, fetch, plan, record, report, script, single_map, what_if
 from .output import COMMAND, ended
 
 
@@ -12,7 +12,7 @@ def command() -> argparse.ArgumentParser:
     parser = argparse.ArgumentParser(prog=COMMAND, description=about)
     parser.add_argument("--version", "-V", action="version", version=f"{COMMAND} {__version__}")
     verbs = parser.add_subparsers(title="verbs", metavar="VERB", required=True)
-    for verb in (fetch, record, script, explain, plan, what_if, draw, single_map):
+    for verb in (fetch, record, script, explain, plan, what_if, draw, report, single_map):
         verb.add_to(verbs)
     return parser
 

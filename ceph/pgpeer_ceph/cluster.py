@@ -70,6 +70,7 @@ class Cluster:
         self.parts = Parts(made.lines)
         self.said = said_of(dumps)
         self.last, self.uses = dumps.maps[max(dumps.maps)], dumps.uses
+        self.modified = {epoch: node.value.get("modified") for epoch, node in dumps.maps.items()}
         trees = [version for version in dumps.trees if version <= version_of(self.last)]
         self.tree: Optional[Node] = dumps.trees[max(trees)] if trees else None
         counts = pools_of(self.last)
