@@ -183,6 +183,7 @@ class Record(Fetch):
             return False
         is_newer, self.last = new[-1] > self.last, new[-1]
         self.maps.fetch_trees()
+        self.maps.fetch_last_map()
         if not self.options.no_groups:
             self.maps.fetch_sets()
         self.goes_on()
