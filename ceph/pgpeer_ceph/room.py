@@ -32,10 +32,12 @@ def make_room(folder: Folder, most: int) -> None:
     maps = sorted(epoch for epoch, names in by_epoch.items() if f"{epoch}.osd.json" in names)
     last = maps[-1] if maps else 0
     for epoch in sorted(by_epoch):
-        if epoch < last and over > 0:
+        if over <= 0:
+            return
+        if epoch < last:
             hand_on_tree(folder, epoch, maps, by_epoch, sizes)
-        for name in sorted(by_epoch[epoch]):
-            if over > 0 and (epoch < last or name.endswith(".pgs.json")):
+        for name in sorted(by_epoch[epoch]):  # of an epoch that goes all, else the oldest of what groups said
+            if epoch < last or over > 0 and name.endswith(".pgs.json"):
                 os.unlink(folder.at(name))
                 over -= sizes[name]
     if over > 0:
