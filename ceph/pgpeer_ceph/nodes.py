@@ -6,6 +6,7 @@ import sys
 from typing import Any, Iterable, List
 
 MOST = 2**32 - 1  # of an epoch, a weight or the number of a version
+MOST_BYTES = 1 << 30  # of a file
 
 
 class Unusable(Exception):
@@ -76,9 +77,13 @@ def text_of(path: str) -> str:
     """What a file holds, or standard input where the path is `-`."""
     try:
         if path == "-":
-            return sys.stdin.buffer.read().decode("utf-8")
-        with open(path, "rb") as file:
-            return file.read().decode("utf-8")
+            found = sys.stdin.buffer.read(MOST_BYTES + 1)
+        else:
+            with open(path, "rb") as file:
+                found = file.read(MOST_BYTES + 1)
+        if len(found) > MOST_BYTES:
+            raise Unusable(f"{path}: more than {MOST_BYTES:,} bytes")
+        return found.decode("utf-8")
     except OSError as fault:
         raise Unusable(f"{path}: {fault.strerror}") from fault
     except ValueError as fault:
