@@ -9,6 +9,7 @@ import subprocess
 import sys
 import tempfile
 import unittest
+import zipfile
 
 ROOT = pathlib.Path(__file__).resolve().parent.parent.parent
 sys.path.append(str(ROOT / "ceph"))
@@ -41,7 +42,7 @@ FILES = {
 OPTIONS = {"run": {"--shards", "--workers"}, "explain": {"--json", "--epoch-offset"}, "compact": set()}
 SUBCOMMANDS = {*OPTIONS, "help"}
 OPTION = re.compile(r"(?<![\w-])--[a-z][a-z-]*")
-VERBS = ("fetch", "script", "explain", "plan", "what-if", "draw", "map")
+VERBS = ("fetch", "record", "script", "explain", "plan", "what-if", "draw", "report", "map")
 
 
 def files_in(folder):
@@ -90,6 +91,8 @@ class Install(Room):
         for words in (["--version"], ["script", "--ask", ROOT / "ceph/tests/maps/outage"]):
             ours, theirs = (subprocess.run([it, *words], capture_output=True) for it in (prefix / "bin/pgpeer-ceph", COMMAND))
             self.assertEqual((ours.returncode, ours.stdout, ours.stderr), (0, theirs.stdout, theirs.stderr))
+        page = {f"pgpeer_ceph/page/page.{kind}" for kind in ("html", "css", "js")}
+        self.assertLessEqual(page, set(zipfile.ZipFile(prefix / "bin/pgpeer-ceph").namelist()))
         words, env = [prefix / "bin/pgpeer-ceph", "explain", ROOT / "examples/first.jsonl"], {**os.environ, "PGPEER": ""}
         told = subprocess.run(words, env=env, capture_output=True, text=True)
         self.assertIn("pgpeer gave an answer that is not JSON", told.stderr)  # the program beside it is asked
