@@ -64,9 +64,9 @@ class Timeline:
     def asked_between(self) -> Dict[Group, List[Turn]]:
         """The verdicts of groups, those that don't serve first, as far as the bound goes."""
         due: Dict[int, List[Group]] = {}
-        count, touched = 0, self.touched_by_device()
+        count, touched, told = 0, self.touched_by_device(), self.told_by_group()
         for group in sorted(self.pasts, key=lambda group: (self.pasts[group].view["verdict"] == "Serve", group)):
-            fronts = self.telling_fronts(group, touched)
+            fronts = self.telling_fronts(group, touched) | told.get(group, set())
             if count + len(fronts) > MOST_QUESTIONS:
                 self.is_whole = False
                 continue
@@ -89,6 +89,14 @@ class Timeline:
                 found.setdefault(osd, []).append(at)
         return found
 
+    def told_by_group(self) -> Dict[Group, Set[int]]:
+        """The fronts with reports of a group, by group."""
+        found: Dict[Group, Set[int]] = {}
+        for at, front in enumerate(self.fronts):
+            for group in front.reports:
+                found.setdefault(group, set()).add(at)
+        return found
+
     def telling_fronts(self, group: Group, touched: Dict[int, List[int]]) -> Set[int]:
         """The fronts after which the verdict of a group may be another one."""
         past = self.pasts[group]
@@ -96,7 +104,6 @@ class Timeline:
         fronts = {at for osd in members for at in touched.get(osd, ())}
         fronts |= {self.places[span.first] for span in past.spans}
         fronts |= {min(at + 1, len(self.fronts) - 1) for at in (self.places[span.first] for span in past.spans)}  # its up_thru
-        fronts |= {at for at, front in enumerate(self.fronts) if group in front.reports}
         begin = self.places[past.spans[0].first]
         return {at for at in fronts if at >= begin}
 

@@ -67,6 +67,7 @@ class Browser:
         self.socket, self.count, self.events = Socket(self.address()), 0, []
         for part in ("Page", "Runtime", "Network", "Log"):
             self.call(f"{part}.enable")
+        self.call("Performance.enable", timeDomain="threadTicks")
 
     def address(self):
         """The page's websocket; the port stands in a file that the browser writes."""
@@ -116,6 +117,10 @@ class Browser:
         self.events = []
         self.call("Page.navigate", url=f"file://{path}{address}")
         self.until("document.documentElement.dataset.ready")
+
+    def busy(self):
+        """The seconds of a processor that the page's main thread has taken, whatever else the machine does."""
+        return next(it["value"] for it in self.call("Performance.getMetrics")["metrics"] if it["name"] == "TaskDuration")
 
     def press(self, key, code=0, text=None):
         """Presses a key, in the element that has the focus."""

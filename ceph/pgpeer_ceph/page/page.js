@@ -13,7 +13,8 @@ const WORDS = {
 const find = (id) => document.getElementById(id);
 
 async function read() {
-  const bytes = Uint8Array.from(atob(find("data").textContent.trim()), (it) => it.charCodeAt(0));
+  const text = atob(find("data").textContent), bytes = new Uint8Array(text.length);
+  for (let at = 0; at < text.length; at++) bytes[at] = text.charCodeAt(at);
   const stream = new Blob([bytes]).stream().pipeThrough(new DecompressionStream("gzip"));
   return JSON.parse(await new Response(stream).text());
 }
@@ -496,7 +497,7 @@ function drawGroup(group, place) {
   const osds = [...new Set(shown.flatMap((it) => [...it.acting, ...(it.up || [])]))].filter((it) => it !== null).sort((a, b) => a - b);
   const hasEmpty = shown.some((it) => it.acting.includes(null));
   const stripY = top + ROW * (osds.length + hasEmpty) + 28, waited = [...new Set([...blocked, ...unheard])].sort((a, b) => a - b);
-  const waitsY = stripY + STRIP + (waited.length ? 26 : 8), height = waitsY + WAIT * waited.length + 10, right = x(columns.length), width = Math.max(760, right + 24);
+  const waitsY = stripY + STRIP + (waited.length ? 26 : 8), height = waitsY + WAIT * waited.length + 10, right = x(columns.length), isWide = right > 1000, width = Math.max(760, right + (isWide ? LEFT : 24));
   const label = `Intervals of group ${nameOf(group)}: its acting sets by epoch and its verdicts; the table below has them in words`;
   const svg = mark("svg", { viewBox: `0 0 ${width} ${height}`, width, height, role: "img", "aria-label": label });
   const text = (a, b, words, kind) => mark("text", { x: a, y: b, class: kind }, words);
@@ -507,6 +508,7 @@ function drawGroup(group, place) {
   osds.forEach((osd, at) => {
     const y = top + ROW * at + 4;
     svg.append(text(LEFT - 10, y + ROW - 10, `osd.${osd}`, "end"), mark("line", { x1: LEFT, x2: right, y1: y + ROW - 1, y2: y + ROW - 1, class: "line" }));
+    if (isWide) svg.append(text(right + 8, y + ROW - 10, `osd.${osd}`));
   });
   if (hasEmpty) svg.append(text(LEFT - 10, top + ROW * osds.length + ROW - 6, "no device", "end soft"));
   let free = 0;
@@ -566,6 +568,7 @@ function drawGroup(group, place) {
     if (column.isFolded) { used.add("fold"); svg.append(box(x(at) + 1, top + 6, wide - 2, stripY + STRIP - top - 6, "fold", `epochs ${column.first} to ${column.last}, folded`)); }
   });
   place.replaceChildren(svg);
+  place.scrollLeft = place.scrollWidth;
   showLegend(used);
 }
 
