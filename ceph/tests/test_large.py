@@ -56,8 +56,8 @@ class Large(unittest.TestCase):
         kinds = collections.Counter(" ".join(it for it in call.split() if it.isalpha())[:18] for call in calls if "osdmaptool" not in call)
         queries = sum(" tell " in call for call in calls)
         self.assertEqual(queries, len(self.states()))
-        self.assertEqual(len(set(calls)), len(calls) - 1, kinds)  # the last map is asked for twice, around its tree
-        self.assertEqual(sum(kinds.values()), queries + 2 * SIZES[2] + 6, kinds)
+        self.assertEqual(len(set(calls)), len(calls) - 2, kinds)  # the last map is asked for once more, around its tree and as it is
+        self.assertEqual(sum(kinds.values()), queries + 2 * SIZES[2] + 7, kinds)
         self.assertEqual(sum("osdmaptool" in call for call in calls), SIZES[2])
         for name in sorted(os.listdir(self.room / "dumps")):
             self.assertEqual((self.room / "out" / name).read_text(), (self.room / "dumps" / name).read_text(), name)
