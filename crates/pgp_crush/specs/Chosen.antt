@@ -4,8 +4,8 @@ use Rattle.std.proofs.lemmas.Bool.{cases_Bool}
 use Rattle.std.proofs.lemmas.Bool.Decides.{nat_tests}
 use Rattle.std.proofs.lemmas.Grind.{common_steps}
 use Rattle.std.specs.Option.{unwrap_or}
-use Rattle.pgp_crush.specs.Least.{least_from, least_below, greatest_below, first_least}
-use Rattle.pgp_crush.specs.Choice.{partner_of, place_before, traced_back, uniform_place, weight_passes, list_place, draw_at, straw2_place}
+use Rattle.pgp_crush.specs.Least.{least_from, greatest_below}
+use Rattle.pgp_crush.specs.Choice.{partner_of, place_before, traced_back, uniform_place, weight_passes, list_place, straw2_place}
 
 partner_of_within : (x id n p : ℕ) → p < n → partner_of x id n p < n
 partner_of_within x id n p h = grind arith

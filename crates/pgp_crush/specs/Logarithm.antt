@@ -1,7 +1,7 @@
 -- The logarithm of a hash with which the items of a straw2 bucket draw: `crush_ln` of Ceph's src/crush/mapper.c. It adds up
 -- entries of the tables of src/crush/crush_ln_table.h, in units of 2 ^ -48, which are here by their formulas. 45 entries aren't
 -- what the formulas give, and count as they are.
-use Rattle.std.specs.Prelude.{ℕ, zero, suc, ◌+◌, ◌-◌, ◌*◌, ◌/◌, ◌%◌, ◌^◌, List, [], ◌∷◌, Bool, nat_eq, nat_le, nat_lt, if◌then◌else◌, unwrap_or}
+use Rattle.std.specs.Prelude.{ℕ, zero, suc, ◌+◌, ◌-◌, ◌*◌, ◌/◌, ◌%◌, ◌^◌, List, [], ◌∷◌, nat_eq, nat_le, nat_lt, if◌then◌else◌, unwrap_or}
 use Rattle.std.specs.List.{find, list_any}
 use Rattle.std.specs.Option.{option_map_or}
 use Rattle.pgp_crush.specs.Least.{greatest_below}

@@ -1,4 +1,4 @@
-use Rattle.std.proofs.Common.{◌∙◌, arith}
+use Rattle.std.proofs.Common.{◌∙◌}
 use Rattle.pgp_crush.proofs.LogarithmLemmas.{power_by_leading_zeros}
 use Rattle.pgp_crush.proofs.logarithms.power_of.Goals as goal
 

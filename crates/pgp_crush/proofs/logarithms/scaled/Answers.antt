@@ -1,4 +1,4 @@
-use Rattle.std.proofs.Common.{◌≡◌, ◌≤◌, ◌*◌, ◌-◌, ◌^◌, arith}
+use Rattle.std.proofs.Common.{◌≤◌, ◌*◌, ◌-◌, ◌^◌, arith}
 use Rattle.pgp_crush.proofs.LogarithmLemmas.{power_small, scaled_bounds}
 use Rattle.pgp_crush.proofs.logarithms.scaled.Goals as goal
 

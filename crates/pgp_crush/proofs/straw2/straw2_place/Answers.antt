@@ -1,5 +1,5 @@
-use Rattle.std.proofs.Common.{◌≡◌, ◌%◌, ◌^◌, FitsSigned, arith, rules, ap, sym, ◌∙◌, slice_index, slice_index_or, pos, unwrap_or, Some, length}
-use Rattle.std.specs.Int.{w32, cast_unsigned}
+use Rattle.std.proofs.Common.{◌≡◌, ◌%◌, ◌^◌, FitsSigned, arith, rules, ap, sym, ◌∙◌, slice_index, slice_index_or, pos, unwrap_or, length}
+use Rattle.std.specs.Int.{w32}
 use Rattle.std.proofs.lemmas.Int.{to_z-of_z}
 use Rattle.pgp_hash.specs.Hash.{hash3}
 use Rattle.pgp_crush.specs.Choice.{word_of, straw2_place, draw, draw_at}

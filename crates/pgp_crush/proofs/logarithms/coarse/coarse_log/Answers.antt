@@ -1,4 +1,4 @@
-use Rattle.std.proofs.Common.{◌+◌, ◌*◌, refl, arith}
+use Rattle.std.proofs.Common.{refl, arith}
 use Rattle.pgp_crush.specs.declared.logarithms.coarse.TheConstants.{COARSE_LOGS}
 use Rattle.pgp_crush.specs.Logarithm.{log_digits, coarse_log}
 use Rattle.pgp_crush.proofs.LogarithmLemmas.{all_below, entry_is, entry_within}

@@ -1,4 +1,4 @@
-use Rattle.std.proofs.Common.{◌+◌, ◌*◌, refl, arith}
+use Rattle.std.proofs.Common.{refl, arith}
 use Rattle.pgp_crush.specs.declared.logarithms.fine.TheConstants.{FINE_LOGS}
 use Rattle.pgp_crush.specs.Logarithm.{log_digits, fine_log}
 use Rattle.pgp_crush.proofs.LogarithmLemmas.{all_below, entry_is, entry_within}
