@@ -1,10 +1,10 @@
 -- What buckets choose, place by place.
-use Rattle.std.proofs.Common.{◌≡◌, ℕ, cond, zero, suc, ◌+◌, ◌-◌, ◌^◌, ◌<◌, ◌≤◌, Bool, nat_eq, false, ℤ, pos, List, ◌∷◌, length, slice_get, slice_index, slice_index_or, inl, inr, refl, arith, ap, ◌∙◌, add-one, Some, None}
+use Rattle.std.proofs.Common.{◌≡◌, ℕ, cond, zero, suc, ◌+◌, ◌-◌, ◌^◌, ◌<◌, ◌≤◌, Bool, nat_eq, false, ℤ, pos, List, ◌∷◌, length, slice_get, slice_index, slice_index_or, slice_set, inl, inr, refl, arith, ap, ◌∙◌, add-one, Some, None}
 use Rattle.std.proofs.Math.Nat.{div-le_self}
 use Rattle.std.proofs.lemmas.Bool.{cases_Bool, cases_lt}
 use Rattle.std.proofs.lemmas.Grind.{common_steps}
 use Rattle.std.proofs.lemmas.Bool.Decides.{nat_tests}
-use Rattle.std.proofs.lemmas.List.{get_or_past}
+use Rattle.std.proofs.lemmas.List.{get_or_past, get_or-set_same, get_or-set_other}
 use Rattle.std.proofs.lemmas.Option.{slice_get-get_or, slice_get_past}
 use Rattle.std.specs.List.{All}
 use Rattle.std.specs.Option.{unwrap_or}
@@ -59,6 +59,14 @@ pub draw_within : (hash weight : ℕ) → draw hash weight ≤ 2 ^ 63
 draw_within hash weight = elim (cases_Bool (nat_eq weight 0)) [
   | inl none ↦ rw none (omega arith)
   | inr some ↦ rw some (omega (arith, div-le_self (2 ^ 48 - logarithm hash) weight))
+]
+
+-- one place more of a list is as f says
+pub filled : (f : ℕ → ℕ) (xs : List ℕ) (k v : ℕ) → k < length xs → v ≡ f k → ((j : ℕ) → j < k → slice_index xs j ≡ f j)
+    → (j : ℕ) → j < k + 1 → slice_index (slice_set xs k v) j ≡ f j
+filled f xs k v within is said j below = elim (cases_lt j k) [
+  | inl earlier ↦ get_or-set_other xs k j v 0 (omega arith) ∙ said j earlier
+  | inr last ↦ (let same : j ≡ k = omega arith in rw same (get_or-set_same xs k v 0 within ∙ is))
 ]
 
 -- ---- a bucket that is empty, and one that isn't

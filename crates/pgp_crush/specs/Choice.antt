@@ -47,9 +47,13 @@ uniform_place x r id n = let q = r % n in traced_back x id n (q + 1) q
 abbrev pub draw : ℕ → ℕ → ℕ
 draw hash weight = if nat_eq weight 0 then 2 ^ 63 else (2 ^ 48 - logarithm hash) / weight
 
--- what the item at this place draws
+-- the hash by which the item at this place draws
+abbrev pub hash_at : ℕ → ℕ → List ℤ → ℕ → ℕ
+hash_at x r items i = hash3 x (word_of (slice_index_or items i (pos 0))) r
+
+-- what it draws
 abbrev pub draw_at : ℕ → ℕ → List ℤ → List ℕ → ℕ → ℕ
-draw_at x r items weights i = draw (hash3 x (word_of (slice_index_or items i (pos 0))) r % 2 ^ 16) (slice_index weights i)
+draw_at x r items weights i = draw (hash_at x r items i % 2 ^ 16) (slice_index weights i)
 
 -- the first place of the least draw
 unfoldable pub straw2_place : ℕ → ℕ → List ℤ → List ℕ → ℕ

@@ -1,8 +1,8 @@
 //! Straw2 buckets, in which each item draws by itself.
 
-ghost use Rattle.std.specs.Prelude.{◌≡◌, ◌-◌, ◌%◌, ◌^◌, ◌<◌, ◌≤◌, pos, length, slice_index_or, IfSome, IfNone};
+ghost use Rattle.std.specs.Prelude.{◌≡◌, ℕ, ◌+◌, ◌-◌, ◌%◌, ◌^◌, ◌<◌, ◌≤◌, pos, length, slice_index, slice_index_or, IfSome, IfNone};
 ghost use Rattle.pgp_crush.specs.Logarithm.{logarithm};
-ghost use Rattle.pgp_crush.specs.Choice.{draw, straw2_place};
+ghost use Rattle.pgp_crush.specs.Choice.{word_of, hash_at, draw, straw2_place};
 ghost use Rattle.pgp_crush.specs.Chosen.{straw2_chooses_item};
 
 use super::chooser::Chooser;
@@ -40,14 +40,45 @@ fn straw2_place(x: u32, r: u32, items: &[i32], weights: &[u32]) -> usize
 {
     let mut place = 0;
     let mut least = WEIGHTLESS;
+    let mut hashes = [0; LANES];
     for i in 0..items.len() {
-        let hash = hash3(x, items[i].cast_unsigned(), r);
-        if let Some(draw) = draw_below(least, hash, weights[i]) {
+        if i % LANES == 0 {
+            hashes = hashes_from(x, r, items, i);
+        }
+        if let Some(draw) = draw_below(least, hashes[i % LANES], weights[i]) {
             least = draw;
             place = i;
         }
     }
     place
+}
+
+/// How many items are hashed side by side.
+const LANES: usize = 8;
+
+/// The hashes of the items from this place on, up to as many as are hashed side by side; past the end any.
+fn hashes_from(x: u32, r: u32, items: &[i32], first: usize) -> [u32; LANES]
+    requires { first < length items.now }
+    ensures { (k : ℕ) → k < 8 → first + k < length items.now → slice_index result k ≡ hash_at x r items.now (first + k) }
+{
+    let ids = ids_from(items, first);
+    let mut hashes = [0; LANES];
+    for k in 0..LANES {
+        hashes[k] = hash3(x, ids[k], r);
+    }
+    hashes
+}
+
+/// The ids of these items as words; past the end 0.
+fn ids_from(items: &[i32], first: usize) -> [u32; LANES]
+    requires { first < length items.now }
+    ensures { (k : ℕ) → k < 8 → first + k < length items.now → slice_index result k ≡ word_of (slice_index_or items.now (first + k) (pos 0)) }
+{
+    let mut ids = [0; LANES];
+    for k in 0..LANES.min(items.len() - first) {
+        ids[k] = items[first + k].cast_unsigned();
+    }
+    ids
 }
 
 /// What an item of weight 0 draws.
