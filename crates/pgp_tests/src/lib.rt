@@ -7,6 +7,8 @@
 #[cfg(test)]
 mod best_stream;
 #[cfg(test)]
+mod choices;
+#[cfg(test)]
 mod cleans;
 #[cfg(test)]
 mod codes;
@@ -38,6 +40,8 @@ mod plain_history;
 mod prior_index;
 #[cfg(test)]
 mod prior_sets;
+#[cfg(test)]
+mod straw2;
 #[cfg(test)]
 mod texts;
 #[cfg(test)]
