@@ -1,13 +1,16 @@
 //! How a feed is made.
-ghost use Rattle.std.specs.Prelude.{◌≡◌, ◌≤◌, [], Some, drop, length, vec_capacity, All, IfOk, IfErr, IfSome, IsErr, OnErr, MatchResult};
+ghost use Rattle.std.specs.Prelude.{◌≡◌, ◌≤◌, [], ◌∷◌, Some, drop, length, vec_capacity, All, IfOk, IfErr, IfSome, IsErr, OnErr, MatchResult};
 ghost use Rattle.pgp_feed.specs.Receipts.{entries_of};
+ghost use Rattle.left_right.specs.Sides.{view};
 ghost use Rattle.pgp_feed.specs.Feeds.{told_of};
+ghost use Rattle.pgp_feed.specs.Puts.{IsPut};
+ghost use Rattle.pgp_feed.specs.declared.store.Operation.TheVariants.{Skip};
 ghost use Rattle.pgp_feed.specs.Taps.{last_of};
 ghost use Rattle.pgp_feed.specs.Supplies.{IsSupplied};
 ghost use Rattle.pgp_feed.specs.declared.fault.MakeFault.TheVariants.{Memory, NoReader};
 
-use super::steps::{next_turn, publish_queued};
-use super::warm::skip_twice;
+use super::steps::try_publish;
+use super::warm::{Warm, skip_twice};
 use super::{Feed, LogWriter};
 use crate::fault::MakeFault;
 use crate::receipt::Receipt;
@@ -39,21 +42,52 @@ fn empty_writer(alloc: Global, told: &Receipt, readers: usize) -> Result<LogWrit
     LogWriter::new(alloc, first, second, readers)
 }
 
+// The writer with two operations in its queue that do nothing. Refused, it is ended.
+fn warmed<R: Wait>(rt: &R, writer: LogWriter) -> Result<(LogWriter, Warm), AllocError>
+    requires { drop writer.behind writer.log.items ≡ [] }
+    ensures desk { IfOk result (λ made. made.0.desk ≡ writer.desk) }
+    ensures queued { IfOk result (λ made. drop made.0.behind made.0.log.items ≡ Skip ∷ Skip ∷ []) }
+{
+    let mut writer = writer;
+    match skip_twice(&mut writer) {
+        Ok(warm) => Ok((writer, warm)),
+        Err(AllocError) => {
+            writer.take(rt);
+            Err(AllocError)
+        }
+    }
+}
+
+// The writer, once it has shown what is queued. It is tried once; refused, the writer is ended.
+fn shown<R: Wait>(rt: &R, writer: LogWriter, told: &Receipt) -> Result<LogWriter, AllocError>
+    requires { IsPut writer.desk.shown.value.told told.now (drop writer.behind writer.log.items) }
+    ensures told { IfOk result (λ shown. shown.desk.shown.value.told ≡ told.now) }
+    ensures seen { IfOk result (λ shown. view shown.desk.place ≡ Some told.now) }
+    ensures settled { IfOk result (λ shown. drop shown.behind shown.log.items ≡ []) }
+{
+    match try_publish(rt, writer, told) {
+        Ok(shown) => Ok(shown),
+        Err(back) => {
+            back.take(rt);
+            Err(AllocError)
+        }
+    }
+}
+
 impl Feed {
-    // A feed without taps. Its writer's own view names it, so it publishes the empty log.
+    // A feed without taps. Its writer's own view names it, so it publishes the empty log. All is tried once.
     fn without_taps<R: Wait>(rt: &R, alloc: Global, readers: usize) -> Result<Feed, AllocError>
         requires { (1 ≤ readers) × (readers ≤ 129) }
         ensures { IfOk result (λ feed. entries_of (told_of feed) ≡ []) }
     {
         let (word, turns, told) = Receipt::open();
-        let mut writer = empty_writer(alloc, &told, readers)?;
-        let Ok(warm) = skip_twice(&mut writer) else {
-            writer.take(rt);
+        let Some(turn) = told.turn(&turns) else {
             return Err(AllocError);
         };
+        let writer = empty_writer(alloc, &told, readers)?;
+        let (writer, warm) = warmed(rt, writer)?;
         // The first publish shows the two, the second empties the queue.
-        let writer = publish_queued(rt, publish_queued(rt, writer, &told), &told);
-        let turn = next_turn(rt, &turns, &told);
+        let writer = shown(rt, shown(rt, writer, &told)?, &told)?;
         Ok(Feed {
             word,
             turns,
@@ -132,7 +166,8 @@ impl Feed {
 
     /// A feed with an empty log, and this many taps, each with the empty front. Both copies have room for the longest log.
     /// Refused by `Memory` where there is no memory for the copies, the writer's queue, the readers' places or the list of
-    /// taps; with all of these, by `NoReader` where a tap isn't given its place.
+    /// taps; with all of these, by `NoReader` where a tap isn't given its place. It tries each step once, and waits for nobody:
+    /// the handle is for the writer of the copies, which waits for readers, and nobody reads yet.
     pub fn make<R: Wait>(rt: &R, alloc: Global, taps: usize) -> Result<(Feed, Vec<Tap>), MakeFault>
         requires { (1 ≤ taps) × (taps ≤ 129) }
         ensures empty { IfOk result (λ made. entries_of (told_of made.0) ≡ []) }

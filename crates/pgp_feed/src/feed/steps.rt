@@ -1,5 +1,5 @@
 //! What the writer does.
-ghost use Rattle.std.specs.Prelude.{◌≡◌, [], ◌∷◌, ◌++◌, None, Some, drop, MatchResult};
+ghost use Rattle.std.specs.Prelude.{◌≡◌, [], ◌∷◌, ◌++◌, None, Some, drop, IfOk, MatchResult};
 ghost use Rattle.std.specs.Arc.{arc_value};
 ghost use Rattle.left_right.specs.Sides.{view};
 ghost use Rattle.pgp_log.specs.Fits.{fits};
@@ -20,7 +20,7 @@ use pgp_ids::Entry;
 use std::sync::{Arc, Wait};
 
 // Takes the turn of the entry after those that were told. The writer alone takes turns, so the first try does.
-pub(super) fn next_turn<R: Wait>(rt: &R, turns: &Number, told: &Receipt) -> Pen
+fn next_turn<R: Wait>(rt: &R, turns: &Number, told: &Receipt) -> Pen
     requires { turns.now ≡ turns_word (feed_of told.now) }
     ensures { IsTurnAfter told.now result }
 {
@@ -49,9 +49,24 @@ fn queue<R: Wait>(rt: &R, writer: LogWriter, operation: Operation) -> LogWriter
     unreachable!()
 }
 
+// Tries once to publish what is queued. Refused, it is queued as before.
+pub(super) fn try_publish<R: Wait>(
+    rt: &R,
+    writer: LogWriter,
+    told: &Receipt,
+) -> Result<LogWriter, LogWriter>
+    requires { IsPut writer.desk.shown.value.told told.now (drop writer.behind writer.log.items) }
+    ensures told { MatchResult result (λ shown. shown.desk.shown.value.told ≡ told.now) (λ back. IsPut back.desk.shown.value.told told.now (drop back.behind back.log.items)) }
+    ensures seen { IfOk result (λ shown. view shown.desk.place ≡ Some told.now) }
+    ensures settled { IfOk result (λ shown. drop shown.behind shown.log.items ≡ []) }
+{
+    let (next, done) = writer.publish_as::<Sees, R>(rt);
+    if done.is_ok() { Ok(next) } else { Err(next) }
+}
+
 // Publishes what is queued. Both copies have room for the longest log, so the first try does, unless an entry has too many
 // owners.
-pub(super) fn publish_queued<R: Wait>(rt: &R, writer: LogWriter, told: &Receipt) -> LogWriter
+fn publish_queued<R: Wait>(rt: &R, writer: LogWriter, told: &Receipt) -> LogWriter
     requires { IsPut writer.desk.shown.value.told told.now (drop writer.behind writer.log.items) }
     ensures told { result.desk.shown.value.told ≡ told.now }
     ensures seen { view result.desk.place ≡ Some told.now }
@@ -59,10 +74,9 @@ pub(super) fn publish_queued<R: Wait>(rt: &R, writer: LogWriter, told: &Receipt)
 {
     let mut writer = writer;
     for _ in rt.forever() {
-        let (next, done) = writer.publish_as::<Sees, R>(rt);
-        writer = next;
-        if done.is_ok() {
-            return writer;
+        match try_publish(rt, writer, told) {
+            Ok(shown) => return shown,
+            Err(back) => writer = back,
         }
     }
     unreachable!()
