@@ -1,12 +1,14 @@
 -- What a follower has taken of a log.
-use Rattle.std.proofs.Common.{◌≡◌, ℕ, ◌≤◌, List, ◌++◌, length, map, take, drop, append_assoc, true, refl, ap, sym, ◌∙◌, subst}
+use Rattle.std.proofs.Common.{◌≡◌, ℕ, ◌<◌, ◌≤◌, List, ◌++◌, length, map, take, drop, append_assoc, true, refl, ap, sym, ◌∙◌, subst, Result, Ok, Err, OnErr}
 use Rattle.std.proofs.lemmas.List.{map-append, take-append-drop}
 use Rattle.std.specs.Arc.{arc_value}
 use Rattle.std.specs.declared.sync.Arc.{Arc}
 use Rattle.pgp_ids.specs.declared.entry.Entry.{Entry}
 use Rattle.pgp_log.specs.Log.{IsFrontOf, is_legal}
 use Rattle.pgp_feed.proofs.Fronts.{front_self}
+use Rattle.pgp_engine.specs.Clients.{IsChartOf, IsChartWithin}
 use Rattle.pgp_engine.specs.Followers.{HasTakenFront, HasTakenMore}
+use Rattle.pgp_engine.specs.declared.client.chart.Chart.{Chart}
 use Rattle.pgp_engine.proofs.FrontLemmas.{filled, front_same, front_short}
 
 -- one that has taken some of what comes next has taken no fewer than before
@@ -54,3 +56,9 @@ pub filled-more : {F Z : Type 0} (has_taken : List Entry → F → Type 0) (log 
 filled-more has_taken log old new n unread slice taken is part count same read legal takes =
     let whole : taken ++ map arc_value slice ≡ log = filled taken log n unread slice part count same read in
     subst (λ (l : List Entry). HasTakenMore has_taken taken l new) whole (takes taken is (ap is_legal whole ∙ legal))
+
+-- a chart that has taken less than there is counts less
+pub charted_less : {T E : Type 0} (r : Result T E) (log : List Entry) (chart : Chart) → IsChartWithin log chart
+    → OnErr r ((taken : List Entry) → IsChartOf taken chart → length taken < length log) → OnErr r (chart.judge.count < length log)
+charted_less (Ok x) log chart within less = less
+charted_less (Err x) log chart within less = subst (λ (n : ℕ). n < length log) (sym within.is.judge_is.count_is) (less within.taken within.is)

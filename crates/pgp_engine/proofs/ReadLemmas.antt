@@ -1,9 +1,11 @@
 -- What a shard has read of a front.
-use Rattle.std.proofs.Common.{◌≡◌, ℕ, ◌≤◌, ◌<◌, ◌⊎◌, Bool, true, false, inl, inr, List, [], ◌∷◌, length, get_or, ap, sym, subst, arith}
-use Rattle.std.specs.Prelude.{if◌then◌else◌}
+use Rattle.std.proofs.Common.{◌≡◌, ℕ, ◌≤◌, ◌<◌, ◌⊎◌, Bool, true, false, inl, inr, List, [], ◌∷◌, length, drop, get_or, Option, Some, IfSome, refl, ap, sym, ◌∙◌, subst, arith}
+use Rattle.std.proofs.lemmas.Bool.Decides.{nat_tests}
+use Rattle.std.specs.Prelude.{◌==◌, if◌then◌else◌}
 use Rattle.pgp_ids.specs.declared.entry.Entry.{Entry}
 use Rattle.pgp_log.specs.Log.{IsFrontOf}
-use Rattle.pgp_log.specs.Shard.{Shard}
+use Rattle.pgp_ids.specs.declared.pg_id.PgId.{PgId}
+use Rattle.pgp_log.specs.Shard.{AreUnmarked, Shard}
 use Rattle.pgp_feed.proofs.Fronts.{front_trans}
 use Rattle.pgp_feed.specs.declared.receipt.Receipt.{Receipt}
 use Rattle.pgp_feed.specs.Receipts.{entries_of, Holds}
@@ -44,3 +46,16 @@ had_to_read true view old new target newest last q which is same seen less =
     inl (seen_more view old new target newest last is same seen (omega (arith, size)) less)
 had_to_read false view old new target newest last q which is same seen less =
     inr (subst (λ (s : Reader). length s.front < length (entries_of q)) is (subst (λ (r : Receipt). length view.front < length (entries_of r)) which less))
+
+none_of : (ids : List PgId) → length ids ≡ 0 → ids ≡ []
+none_of [] none = refl
+none_of (x ∷ ids) none = absurd (omega (arith, none))
+
+-- where none of the marks is left, there are none
+pub none_left : (max left : ℕ) (before after : Shard) → AreUnmarked max before after → IfSome after.marks (λ marks. left ≡ length marks)
+    → (left == 0) ≡ true → after.marks ≡ Some []
+none_left max left before after away count is =
+    let ids : List PgId = drop max away.marked in
+    let all : left ≡ length ids = subst (λ (marks : Option (List PgId)). IfSome marks (λ m. left ≡ length m)) away.left count in
+    let zero : left ≡ 0 = grind (arith, nat_tests) in
+    away.left ∙ ap (λ (l : List PgId). Some l) (none_of ids (sym all ∙ zero))

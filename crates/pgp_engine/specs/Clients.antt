@@ -1,5 +1,5 @@
 -- A client, and the map by which it places objects.
-use Rattle.std.specs.Prelude.{◌≡◌, List, []}
+use Rattle.std.specs.Prelude.{ℕ, ◌≡◌, ◌<◌, List, [], length}
 use Rattle.logbook.specs.Pages.{Book}
 use Rattle.pgp_ids.specs.declared.entry.Entry.{Entry}
 use Rattle.pgp_group.specs.Entries.{incs_of}
@@ -27,6 +27,15 @@ pub record IsClientOf (feed : Book) (tap : Tap) (front : Receipt) (chart : Chart
   pub front_is : feed_of front ≡ feed
   pub chart_is : IsChartWithin (entries_of front) chart
 
--- a client with this front has read nothing
-abbrev pub IsNew : Receipt → Type 0
-IsNew front = entries_of front ≡ []
+-- a client: the front that it has come to, and how many entries of it the chart has taken
+pub record Placer : Type 0 where
+  pub front : Receipt
+  pub charted : ℕ
+
+-- the chart lacks some entries of this front
+abbrev pub HasToChart : Placer → Receipt → Type 0
+HasToChart client front = client.charted < length (entries_of front)
+
+-- the client has come to no entry
+abbrev pub IsNew : Placer → Type 0
+IsNew client = entries_of client.front ≡ []

@@ -1,5 +1,5 @@
 -- What an intake keeps, and what a submit is answered.
-use Rattle.std.specs.Prelude.{◌≡◌, ◌≢◌, ◌<◌, ◌⊎◌, List, [], ◌∷◌, ◌++◌, length, true, Some, None}
+use Rattle.std.specs.Prelude.{ℕ, ◌≡◌, ◌≢◌, ◌<◌, ◌⊎◌, List, [], ◌∷◌, ◌++◌, length, true, Some, None}
 use Rattle.logbook.specs.Pages.{Book}
 use Rattle.pgp_ids.specs.declared.refusal.Refusal.{Refusal}
 use Rattle.pgp_ids.specs.declared.refusal.Refusal.TheVariants as refusal
@@ -13,6 +13,15 @@ use Rattle.pgp_feed.specs.Receipts.{entries_of, feed_of, Holds}
 use Rattle.pgp_engine.specs.declared.fault.SubmitFault.{SubmitFault}
 use Rattle.pgp_engine.specs.declared.fault.SubmitFault.TheVariants.{Refused, Memory, NoReader}
 use Rattle.pgp_engine.specs.Fronts.{Names, Follows}
+
+-- an intake: the log that was told so far, and how many entries of it the judge has taken
+pub record ToldLog : Type 0 where
+  pub log : List Entry
+  pub judged : ℕ
+
+-- the judge has to take some of the log
+abbrev pub HasToJudge : ToldLog → Type 0
+HasToJudge told = told.judged < length told.log
 
 -- the told receipt and the one that the tap gave last are of this feed, and the judge has taken a front of what was told
 pub record IsIntake (feed : Book) (told last : Receipt) (judge : Judge) : Type 0 where
@@ -32,10 +41,10 @@ MayRefuse feed log entry (Refused why at) = IsRefused feed log entry why at
 MayRefuse feed log entry Memory = Unit {0}
 MayRefuse feed log entry NoReader = Unit {0}
 
--- for what a submit may find no memory: the judge may have to take some of the log, the map may lack it to look at an
--- incremental, or the entry fits
-abbrev pub MayWant : List Entry → Entry → Type 0
-MayWant log entry = (0 < length log) ⊎ (MapMayLack log entry ⊎ (fits log entry ≡ None))
+-- for what a submit may find no memory: the judge has to take some of the log, the map may lack it to look at an incremental,
+-- or the entry fits
+abbrev pub MayWant : ToldLog → Entry → Type 0
+MayWant told entry = HasToJudge told ⊎ (MapMayLack told.log entry ⊎ (fits told.log entry ≡ None))
 
 -- the receipt names a longer front than the caller's, which it holds; its last entry is the one that was submitted, and it is
 -- legal

@@ -1,5 +1,5 @@
 -- A shard that reads the feed, and what it does.
-use Rattle.std.specs.Prelude.{◌≡◌, ℕ, ◌+◌, ◌<◌, ◌⊎◌, List, length, Option, true}
+use Rattle.std.specs.Prelude.{◌≡◌, ℕ, ◌+◌, ◌<◌, ◌⊎◌, List, [], length, Option, Some, Bool, true}
 use Rattle.logbook.specs.Pages.{Book}
 use Rattle.pgp_ids.specs.declared.entry.Entry.{Entry}
 use Rattle.pgp_ids.specs.declared.pg_id.PgId.{PgId}
@@ -26,11 +26,14 @@ state_of s = record { front = s.front; shard = s.shard; shards = s.shards; marks
 abbrev pub Serves : Reader → PgId → Type 0
 Serves s pg = is_own s.shard s.shards pg ≡ true
 
--- what a shard keeps: its receipt names the entries that it has read, which its tap has given
-pub record IsReader (feed : Book) (state : Shard) (stored last : Receipt) : Type 0 where
+-- what a shard keeps: its receipt names the entries that it has read, which its tap has given; its number is that of its state;
+-- and where it calls all of its groups worked out, none is marked
+pub record IsReader (feed : Book) (state : Shard) (stored last : Receipt) (number : ℕ) (worked_out : Bool) : Type 0 where
   pub named : Names feed state.front stored
   pub last_is : feed_of last ≡ feed
   pub seen : IsFrontOf state.front (entries_of last)
+  pub number_is : number ≡ state.shard
+  pub none_marked : worked_out ≡ true → state.marks ≡ Some []
 
 -- it is the same shard still, and has read on within this log
 pub record ReadsOn (log : List Entry) (old new : Shard) : Type 0 where
@@ -56,7 +59,8 @@ abbrev pub HadToRead : Reader → Reader → Receipt → Type 0
 HadToRead old new q = (length old.front < length new.seen) ⊎ (length old.front < length (entries_of q))
 
 -- the shard has read this many entries more, or all that there were: its tap gave a newest front, and it has read that one so
--- far
+-- far. That front was published at some moment of the call. That it holds all that was published when the call began no clause
+-- can say: whoever calls hands in nothing that names it, and the copies of the log tell a reader only of what it saw before
 pub record HasAbsorbed (old new : Reader) (max : ℕ) : Type 0 where
   pub newest : List Entry
   pub later : IsFrontOf old.seen newest

@@ -13,8 +13,8 @@ mod steps;
 pub use fault::LocateFault;
 pub use place::Place;
 
-/// It reads the published log by a tap of its own, waits for nobody, and places objects by what it has read. Contracts see it
-/// as its front, which never goes back.
+/// It reads the published log by a tap of its own, waits for nobody, and places objects by what it has read. Contracts see its
+/// front, which never goes back, and how much of it the chart has taken.
 pub struct Client<J: Naming> {
     tap: Tap,
     front: Receipt,
@@ -39,13 +39,11 @@ impl<J: Naming> Drop for Client<J> {
 }
 
 impl<J: Naming> Model for Client<J> {
-    ghost use Rattle.pgp_feed.specs.declared.receipt.Receipt.{Receipt};
+    ghost use Rattle.pgp_engine.specs.Clients.{IsClientOf, Placer};
 
-    ghost Value = { Receipt };
+    ghost Value = { Placer };
 
-    ghost use Rattle.pgp_engine.specs.Clients.{IsClientOf};
-
-    ghost view = { λ c. c.front };
+    ghost view = { λ c. record { front = c.front; charted = c.chart.judge.count } };
 
     ghost invariant = { λ c. IsClientOf J.feed c.tap c.front c.chart };
 }

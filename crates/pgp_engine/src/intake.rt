@@ -9,10 +9,9 @@ use std::marker::{Model, PhantomData};
 mod judging;
 mod steps;
 
-/// It judges an entry by the whole log and publishes it. Contracts see it as the log that was told so far.
-///
-/// The judge may have taken a front of that log alone, where it lacked memory after a publish: the next submit has it take
-/// the rest, so that nothing that was published is given up.
+/// It judges an entry by the whole log and publishes it. Contracts see the log that was told so far, and how much of it the judge
+/// has taken: where it lacked memory after a publish, the next submit has it take the rest, so that nothing that was published is
+/// given up.
 pub struct Intake<J: Naming> {
     alloc: Global,
     feed: Feed,
@@ -24,17 +23,14 @@ pub struct Intake<J: Naming> {
 }
 
 impl<J: Naming> Model for Intake<J> {
-    ghost use Rattle.std.specs.Prelude.{List};
-    ghost use Rattle.pgp_ids.specs.declared.entry.Entry.{Entry};
     ghost use Rattle.pgp_feed.specs.Receipts.{entries_of};
     ghost use Rattle.pgp_feed.specs.Feeds.{told_of};
     ghost use Rattle.pgp_feed.specs.Taps.{last_of};
+    ghost use Rattle.pgp_engine.specs.Intakes.{IsIntake, ToldLog};
 
-    ghost Value = { List Entry };
+    ghost Value = { ToldLog };
 
-    ghost use Rattle.pgp_engine.specs.Intakes.{IsIntake};
-
-    ghost view = { λ i. entries_of (told_of i.feed) };
+    ghost view = { λ i. record { log = entries_of (told_of i.feed); judged = i.judge.count } };
 
     ghost invariant = { λ i. IsIntake J.feed (told_of i.feed) (last_of i.tap) i.judge };
 }

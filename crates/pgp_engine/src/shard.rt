@@ -11,13 +11,14 @@ mod steps;
 /// It reads one front of the log after another, and answers for its own groups by the front that it has read. Its receipt
 /// names that front.
 pub struct Shard<J: Naming> {
+    number: usize,
     state: ShardState,
     front: Receipt,
     tap: Tap,
     /// Where the next entries are read to.
     buffer: EntryBuffer,
-    /// How many of its groups were left to work out after its last turn in which there was nothing to read. 0 before the first.
-    left: usize,
+    /// All of its groups are worked out. An entry that is read may mark some of them anew.
+    worked_out: bool,
     of: PhantomData<J>,
 }
 
@@ -25,11 +26,12 @@ pub struct Shard<J: Naming> {
 impl<J: Naming> Drop for Shard<J> {
     fn drop(self) {
         let Shard {
+            number: _,
             state: _,
             front: _,
             tap: _,
             buffer: _,
-            left: _,
+            worked_out: _,
             of: _,
         } = self;
     }
@@ -50,5 +52,5 @@ impl<J: Naming> Model for Shard<J> {
       seen = entries_of (last_of s.tap);
     } };
 
-    ghost invariant = { λ s. IsReader J.feed s.state s.front (last_of s.tap) };
+    ghost invariant = { λ s. IsReader J.feed s.state s.front (last_of s.tap) s.number s.worked_out };
 }

@@ -61,6 +61,7 @@ impl Chart {
     }
 
     /// Takes what it lacks of the front. Refused, it may have taken some of it.
+    #[tactic(auto, using(crate::proofs::FollowerLemmas::charted_less))]
     pub fn follow(
         &mut self,
         tap: &mut Tap,
@@ -72,7 +73,7 @@ impl Chart {
         ensures feed { feed_of (last_of tap.new) ≡ feed_of (last_of tap.old) }
         ensures whole { OnOk result (IsChartOf (entries_of front.now) self.new) }
         ensures within { IsChartWithin (entries_of front.now) self.new }
-        ensures reads { OnErr result (0 < length (entries_of front.now)) }
+        ensures reads { OnErr result (self.old.judge.count < length (entries_of front.now)) }
     {
         buffer.bring(self, tap, front)
     }

@@ -1,5 +1,5 @@
 //! What a client answers.
-ghost use Rattle.std.specs.Prelude.{◌≡◌, ◌<◌, ◌≤◌, [], ◌⊎◌, length, None, Some, Err, IfOk};
+ghost use Rattle.std.specs.Prelude.{◌≡◌, ◌≤◌, ◌⊎◌, length, None, Some, Err, IfOk, OnOk};
 ghost use Rattle.std.specs.Ordering.{nat_cmp};
 ghost use Rattle.pgp_map.specs.Pools.{pool};
 ghost use Rattle.pgp_group.specs.Entries.{incs_of};
@@ -8,6 +8,7 @@ ghost use Rattle.pgp_log.specs.Locate.{place_of_object, place_with};
 ghost use Rattle.pgp_feed.specs.Receipts.{entries_of, feed_of, Holds};
 ghost use Rattle.pgp_feed.specs.Taps.{last_of};
 ghost use Rattle.pgp_feed.specs.declared.receipt.Receipt.{Receipt as AnyReceipt};
+ghost use Rattle.pgp_engine.specs.Clients.{HasToChart, IsNew};
 ghost use Rattle.pgp_engine.specs.declared.client.fault.LocateFault.TheVariants.{UnknownPool, Memory, NoReader};
 
 use super::Client;
@@ -26,8 +27,8 @@ impl<J: Naming> Client<J> {
     /// A client over a tap of the feed, with the empty front. It takes no memory.
     pub(crate) fn over(alloc: Global, mut tap: Tap) -> Self
         requires { feed_of (last_of tap) ≡ J.feed }
-        ensures feed { feed_of result ≡ J.feed }
-        ensures empty { entries_of result ≡ [] }
+        ensures feed { feed_of result.front ≡ J.feed }
+        ensures empty { IsNew result }
     {
         let front = tap.newest().front(0);
         Client {
@@ -41,9 +42,10 @@ impl<J: Naming> Client<J> {
 
     /// Moves the front on to the newest of the log, and names it. Where no copy of the log is lent, it stays.
     pub fn newest(&mut self) -> Receipt
-        ensures front { result ≡ self.new }
+        ensures front { result ≡ self.new.front }
         ensures feed { feed_of result ≡ J.feed }
-        ensures later { Holds self.new self.old }
+        ensures later { Holds self.new.front self.old.front }
+        ensures charted { self.new.charted ≡ self.old.charted }
     {
         let newest = self.tap.newest();
         self.learn(&newest);
@@ -53,9 +55,10 @@ impl<J: Naming> Client<J> {
     /// Moves the front on to that of a receipt of the feed, if that is longer.
     pub fn learn(&mut self, receipt: &Receipt)
         requires { feed_of receipt.now ≡ J.feed }
-        ensures learnt { Holds self.new receipt.now }
-        ensures later { Holds self.new self.old }
-        ensures one { (self.new ≡ receipt.now) ⊎ (self.new ≡ self.old) }
+        ensures learnt { Holds self.new.front receipt.now }
+        ensures later { Holds self.new.front self.old.front }
+        ensures one { (self.new.front ≡ receipt.now) ⊎ (self.new.front ≡ self.old.front) }
+        ensures charted { self.new.charted ≡ self.old.charted }
     {
         if !self.front.holds(receipt) {
             self.front = receipt.again();
@@ -74,17 +77,19 @@ impl<J: Naming> Client<J> {
     }
 
     /// Where the object of this name lies by the newest front, to which the client's moves on. `UnknownPool`: that front makes
-    /// no such pool. After `Memory` and `NoReader`, which come of no empty front, the same call may answer.
+    /// no such pool. `Memory` and `NoReader`: the chart lacked some of that front. Each other answer leaves it with all of it.
     pub fn locate(&mut self, id: PoolId, name: &ObjectName) -> Result<Place, LocateFault>
-        ensures feed { feed_of self.new ≡ J.feed }
-        ensures later { Holds self.new self.old }
-        ensures placed { IfOk result (λ place. (place.at ≡ self.new)
-            × (place_of_object (incs_of (entries_of self.new)) id name.now ≡ Some (place_with place.pg place.members))) }
-        ensures epoch { IfOk result (λ place. place.epoch ≡ epoch_of (entries_of self.new)) }
+        ensures feed { feed_of self.new.front ≡ J.feed }
+        ensures later { Holds self.new.front self.old.front }
+        ensures placed { IfOk result (λ place. (place.at ≡ self.new.front)
+            × (place_of_object (incs_of (entries_of self.new.front)) id name.now ≡ Some (place_with place.pg place.members))) }
+        ensures epoch { IfOk result (λ place. place.epoch ≡ epoch_of (entries_of self.new.front)) }
         ensures unknown { (at : AnyReceipt) → result ≡ Err (UnknownPool at)
-            → (at ≡ self.new) × (pool (incs_of (entries_of self.new)) id ≡ None) }
-        ensures reads { result ≡ Err NoReader → 0 < length (entries_of self.new) }
-        ensures wants { result ≡ Err Memory → 0 < length (entries_of self.new) }
+            → (at ≡ self.new.front) × (pool (incs_of (entries_of self.new.front)) id ≡ None) }
+        ensures charted { OnOk result (self.new.charted ≡ length (entries_of self.new.front)) }
+        ensures charted_too { (at : AnyReceipt) → result ≡ Err (UnknownPool at) → self.new.charted ≡ length (entries_of self.new.front) }
+        ensures reads { result ≡ Err NoReader → HasToChart self.old self.new.front }
+        ensures wants { result ≡ Err Memory → HasToChart self.old self.new.front }
     {
         let at = self.newest();
         self.chart.follow(&mut self.tap, &mut self.buffer, &at)?;

@@ -21,7 +21,7 @@ pub(super) fn intake_turn<'a, J: Naming, R: Wait>(
     front: &Receipt,
 ) -> MutexGuard<'a, Intake<J>>
     requires { feed_of front.now ≡ J.feed }
-    ensures { IsFrontOf (entries_of front.now) (mutex_guard_value result) }
+    ensures { IsFrontOf (entries_of front.now) (mutex_guard_value result).log }
 {
     for _ in rt.forever() {
         let turn = intake.lock(rt);
@@ -33,8 +33,27 @@ pub(super) fn intake_turn<'a, J: Naming, R: Wait>(
     unreachable!()
 }
 
-/// A turn of the lock of the shard that answers for the group. The shards stand in the order of their numbers, so the first
-/// turn is that shard's.
+/// A turn of the lock of the shard of this number. The shards stand in the order of their numbers, so the first turn is that
+/// shard's.
+pub(super) fn turn_of<'a, J: Naming, R: Wait>(
+    rt: &R,
+    shards: &'a [Mutex<Shard<J>>],
+    number: usize,
+) -> MutexGuard<'a, Shard<J>>
+    requires { number < length shards.now }
+    ensures { (mutex_guard_value result).shard ≡ number }
+{
+    let shard = &shards[number];
+    for _ in rt.forever() {
+        let turn = shard.lock(rt);
+        if turn.number() == number {
+            return turn;
+        }
+    }
+    unreachable!()
+}
+
+/// A turn of the lock of the shard that answers for the group: the first turn is that shard's too.
 pub(super) fn shard_turn<'a, J: Naming, R: Wait>(
     rt: &R,
     shards: &'a [Mutex<Shard<J>>],

@@ -82,7 +82,7 @@ fn publish_all<R: Wait>(rt: &R, feed: &mut Feed, entries: &[Arc<Entry>]) -> Resu
 impl<J: Naming> Engine<J> {
     /// The engine over a feed in which nothing was published yet, with this many shards, to be served by this many workers, and
     /// a client for each tap that neither a shard nor the intake has, with the empty front. Refused, which is for `Memory`
-    /// alone, the feed is given up.
+    /// alone, the feed is given up. It waits for nobody: the handle is for the end of the feed, whose taps nobody reads by then.
     pub fn make<R: Wait>(
         rt: &R,
         alloc: Global,
@@ -102,13 +102,14 @@ impl<J: Naming> Engine<J> {
         ensures new { IfOk result (λ made. All IsNew made.1.items) }
         ensures err { IfErr result (λ fault. fault ≡ Memory) }
     {
-        let (engine, clients, _) = Engine::over(rt, alloc, feed, taps, shards, workers, &[])?;
-        Ok((engine, clients))
+        let (engine, taps) = Engine::with_taps(rt, alloc, feed, taps, shards, workers)?;
+        engine.with_clients(rt, alloc, taps)
     }
 
     /// As [`Engine::make`], over these entries, which are a legal log: they are published first, and the receipt names the log
     /// that they make. So whoever hands it in is answered by a front that holds all of them. Each entry is shared with the
-    /// caller. The intake has judged them already, where there was memory for it; shards and clients read them later.
+    /// caller. The intake has judged them already, where there was memory for it; shards and clients read them later. Each entry
+    /// is a publish, which may wait.
     pub fn over<R: Wait>(
         rt: &R,
         alloc: Global,

@@ -7,7 +7,7 @@ ghost use Rattle.pgp_engine.specs.Faults.{fault_at};
 ghost use Rattle.pgp_engine.specs.Intakes.{IsSubmitted, MayFailToSubmit};
 
 use super::Engine;
-use super::locks::{intake_turn, shard_turn};
+use super::locks::{intake_turn, shard_turn, turn_of};
 use crate::answer::Answer;
 use crate::fault::{AskFault, SubmitFault};
 use crate::naming::Naming;
@@ -18,7 +18,7 @@ use std::sync::{MutexGuard, Wait};
 
 impl<J: Naming> Engine<J> {
     /// Publishes the entry, if the log takes it, and answers the receipt of the log with it. `Refused`: a front that holds
-    /// the caller's doesn't take it, and the receipt names that one. Whatever the fault, nothing was published.
+    /// the caller's doesn't take it, and the receipt names that one. [`Intake::submit`](crate::Intake::submit) says more.
     pub fn submit<R: Wait>(&self, rt: &R, entry: Entry, q: &Receipt) -> Result<Receipt, SubmitFault>
         requires { feed_of q.now ≡ J.feed }
         ensures { MatchResult result (IsSubmitted q.now entry) (MayFailToSubmit q.now entry) }
@@ -78,7 +78,7 @@ impl<J: Naming> Engine<J> {
         ensures named { IfOk result (λ r. feed_of r ≡ J.feed) }
         ensures err { IfErr result (λ fault. fault_at fault ≡ None) }
     {
-        self.shards[shard].lock(rt).absorb_some(max)
+        turn_of(rt, self.shards.as_slice(), shard).absorb_some(max)
     }
 
     /// Ends the engine and its feed.

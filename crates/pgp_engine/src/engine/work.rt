@@ -4,6 +4,7 @@ ghost use Rattle.pgp_engine.specs.Faults.{fault_at};
 ghost use Rattle.pgp_engine.specs.Works.{IsEnd, IsStand};
 
 use super::Engine;
+use super::locks::turn_of;
 use crate::fault::AskFault;
 use crate::gate::Gate;
 use crate::naming::Naming;
@@ -96,7 +97,7 @@ impl<J: Naming> Engine<J> {
         ensures stand { IfOk result (IsStand J.feed) }
         ensures err { IfErr result (λ fault. fault_at fault ≡ None) }
     {
-        let mut turn = self.shards[shard].lock(rt);
+        let mut turn = turn_of(rt, self.shards.as_slice(), shard);
         gate.enter(rt, shard);
         let front = turn.absorb_some(STEPS_A_TURN);
         let closed = turn.is_closed();

@@ -1,8 +1,10 @@
 //! How the judge of an intake keeps up with the log, and what it says of the next entry.
-ghost use Rattle.std.specs.Prelude.{◌≡◌, ◌≢◌, ◌<◌, ◌⊎◌, [], ◌∷◌, ◌++◌, length, None, Err, IfOk, IfErr, OnOk, OnErr, MatchResult};
+ghost use Rattle.std.specs.Prelude.{◌≡◌, ◌≢◌, ◌<◌, ◌≤◌, ◌⊎◌, [], ◌∷◌, ◌++◌, length, None, Err, IfOk, IfErr, OnOk, OnErr, MatchResult};
 ghost use Rattle.std.specs.Arc.{arc_value};
 ghost use Rattle.pgp_log.specs.Fits.{fits};
 ghost use Rattle.pgp_log.specs.Judge.{IsJudgeOf, MapMayLack};
+ghost use Rattle.pgp_ids.specs.declared.refusal.Refusal.{Refusal as AnyRefusal};
+ghost use Rattle.pgp_feed.specs.declared.receipt.Receipt.{Receipt as AnyReceipt};
 ghost use Rattle.pgp_feed.specs.Receipts.{entries_of, feed_of};
 ghost use Rattle.pgp_feed.specs.Feeds.{told_of};
 ghost use Rattle.pgp_feed.specs.Taps.{last_of};
@@ -35,6 +37,7 @@ impl Follower for Judge {
 }
 
 /// Has the judge take what it hasn't yet of what was told.
+#[tactic(auto, using(crate::proofs::JudgeLemmas::judged_less))]
 pub(super) fn catch_up(
     judge: &mut Judge,
     told: &Receipt,
@@ -47,7 +50,7 @@ pub(super) fn catch_up(
     ensures follows { Follows (entries_of told.now) judge.new }
     ensures feed { feed_of (last_of tap.new) ≡ feed_of (last_of tap.old) }
     ensures err { IfErr result (λ fault. refused_at fault ≡ None) }
-    ensures reads { OnErr result (0 < length (entries_of told.now)) }
+    ensures reads { OnErr result (judge.old.count < length (entries_of told.now)) }
 {
     buffer.bring(judge, tap, told)?;
     Ok(())
@@ -85,8 +88,10 @@ pub(super) fn judge_next(
     ensures fit { MatchResult result (λ _. fits (entries_of (told_of feed.now)) entry.now ≡ None) (MayRefuse (feed_of (told_of feed.now)) (entries_of (told_of feed.now)) entry.now) }
     ensures follows { Follows (entries_of (told_of feed.now)) judge.new }
     ensures feed { feed_of (last_of tap.new) ≡ feed_of (last_of tap.old) }
-    ensures reads { result ≡ Err submit.NoReader → 0 < length (entries_of (told_of feed.now)) }
-    ensures wants { result ≡ Err submit.Memory → (0 < length (entries_of (told_of feed.now))) ⊎ MapMayLack (entries_of (told_of feed.now)) entry.now }
+    ensures reads { result ≡ Err submit.NoReader → judge.old.count < length (entries_of (told_of feed.now)) }
+    ensures wants { result ≡ Err submit.Memory → (judge.old.count < length (entries_of (told_of feed.now))) ⊎ MapMayLack (entries_of (told_of feed.now)) entry.now }
+    ensures judged { OnOk result (judge.new.count ≡ length (entries_of (told_of feed.now))) }
+    ensures judged_too { (why : AnyRefusal) (at : AnyReceipt) → result ≡ Err (submit.Refused why at) → judge.new.count ≡ length (entries_of (told_of feed.now)) }
 {
     let told = feed.told();
     catch_up(judge, &told, tap, buffer)?;
@@ -119,6 +124,7 @@ pub(super) fn publish<R: Wait>(
     ensures feed { feed_of (told_of feed.new) ≡ feed_of (told_of feed.old) }
     ensures published { MatchResult result (λ r. (r ≡ told_of feed.new) × (entries_of r ≡ entries_of (told_of feed.old) ++ entry ∷ [])) (λ fault. (fault ≡ submit.Memory) × (told_of feed.new ≡ told_of feed.old)) }
     ensures follows { Follows (entries_of (told_of feed.new)) judge.new }
+    ensures judged { judge.old.count ≤ judge.new.count }
 {
     let (entry, copy) = two_owners(alloc, entry)?;
     let Ok(told) = feed.publish(rt, entry) else {

@@ -1,12 +1,14 @@
 //! What an intake does.
-ghost use Rattle.std.specs.Prelude.{◌≡◌, ◌<◌, [], ◌∷◌, ◌++◌, length, Err, IfOk, MatchBool, MatchResult};
+ghost use Rattle.std.specs.Prelude.{◌≡◌, ◌<◌, ◌≤◌, [], ◌∷◌, ◌++◌, length, Err, IfOk, OnOk, MatchBool, MatchResult};
+ghost use Rattle.pgp_ids.specs.declared.refusal.Refusal.{Refusal};
 ghost use Rattle.pgp_log.specs.Log.{epoch_of, IsFrontOf};
+ghost use Rattle.pgp_feed.specs.declared.receipt.Receipt.{Receipt as AnyReceipt};
 ghost use Rattle.pgp_feed.specs.Receipts.{entries_of, feed_of};
 ghost use Rattle.pgp_feed.specs.Feeds.{told_of};
 ghost use Rattle.pgp_feed.specs.Taps.{last_of};
 ghost use Rattle.pgp_engine.specs.Fronts.{Names};
-ghost use Rattle.pgp_engine.specs.Intakes.{MayRefuse, MayWant};
-ghost use Rattle.pgp_engine.specs.declared.fault.SubmitFault.TheVariants.{Memory, NoReader};
+ghost use Rattle.pgp_engine.specs.Intakes.{HasToJudge, MayRefuse, MayWant};
+ghost use Rattle.pgp_engine.specs.declared.fault.SubmitFault.TheVariants.{Refused, Memory, NoReader};
 
 use super::Intake;
 use super::judging::{catch_up, judge_next, publish};
@@ -27,7 +29,7 @@ impl<J: Naming> Intake<J> {
     pub(crate) fn start(alloc: Global, feed: Feed, tap: Tap) -> Intake<J>
         requires feed { feed_of (told_of feed) ≡ J.feed }
         requires tap { feed_of (last_of tap) ≡ J.feed }
-        ensures { result ≡ entries_of (told_of feed) }
+        ensures { result.log ≡ entries_of (told_of feed) }
     {
         let mut tap = tap;
         let mut judge = Judge::start(alloc);
@@ -45,7 +47,7 @@ impl<J: Naming> Intake<J> {
 
     /// The receipt of the whole log.
     pub fn receipt(&self) -> Receipt
-        ensures { Names J.feed self.now result }
+        ensures { Names J.feed self.now.log result }
     {
         self.feed.told()
     }
@@ -53,19 +55,22 @@ impl<J: Naming> Intake<J> {
     /// The log holds the front that a receipt of the same feed names.
     pub(crate) fn holds(&self, front: &Receipt) -> bool
         requires { feed_of front.now ≡ J.feed }
-        ensures { MatchBool result (IsFrontOf (entries_of front.now) self.now) (length self.now < length (entries_of front.now)) }
+        ensures { MatchBool result (IsFrontOf (entries_of front.now) self.now.log) (length self.now.log < length (entries_of front.now)) }
     {
         self.feed.told().holds(front)
     }
 
     /// Publishes the entry, if the log takes it. `Refused`: the whole log that was told doesn't take it, and the receipt is
-    /// of that log. `NoReader`: the log isn't empty. `Memory`: it isn't, or the entry fits, or is an incremental at which the
-    /// map may lack memory. Whatever the fault, the log is as before.
+    /// of that log. `NoReader`: the judge had to take some of it. `Memory`: it had to, or the entry fits, or is an incremental at
+    /// which the map may lack memory. Whatever the fault, nothing was published. Each other answer leaves the judge with the log
+    /// that was told before.
     pub fn submit<R: Wait>(&mut self, rt: &R, entry: Entry) -> Result<Receipt, SubmitFault>
-        ensures log { MatchResult result (λ _. self.new ≡ self.old ++ entry ∷ []) (λ _. self.new ≡ self.old) }
-        ensures told { MatchResult result (Names J.feed self.new) (MayRefuse J.feed self.old entry) }
-        ensures reads { result ≡ Err NoReader → 0 < length self.old }
+        ensures log { MatchResult result (λ _. self.new.log ≡ self.old.log ++ entry ∷ []) (λ _. self.new.log ≡ self.old.log) }
+        ensures told { MatchResult result (Names J.feed self.new.log) (MayRefuse J.feed self.old.log entry) }
+        ensures reads { result ≡ Err NoReader → HasToJudge self.old }
         ensures wants { result ≡ Err Memory → MayWant self.old entry }
+        ensures judged { OnOk result (length self.old.log ≤ self.new.judged) }
+        ensures judged_too { (why : Refusal) (at : AnyReceipt) → result ≡ Err (Refused why at) → length self.old.log ≤ self.new.judged }
     {
         Ok(self.submit_with_epoch(rt, entry)?.at)
     }
@@ -76,11 +81,13 @@ impl<J: Naming> Intake<J> {
         rt: &R,
         entry: Entry,
     ) -> Result<SubmitAnswer, SubmitFault>
-        ensures log { MatchResult result (λ _. self.new ≡ self.old ++ entry ∷ []) (λ _. self.new ≡ self.old) }
-        ensures told { MatchResult result (λ submitted. Names J.feed self.new submitted.at) (MayRefuse J.feed self.old entry) }
+        ensures log { MatchResult result (λ _. self.new.log ≡ self.old.log ++ entry ∷ []) (λ _. self.new.log ≡ self.old.log) }
+        ensures told { MatchResult result (λ submitted. Names J.feed self.new.log submitted.at) (MayRefuse J.feed self.old.log entry) }
         ensures epoch { IfOk result (λ submitted. submitted.epoch ≡ epoch_of (entries_of submitted.at)) }
-        ensures reads { result ≡ Err NoReader → 0 < length self.old }
+        ensures reads { result ≡ Err NoReader → HasToJudge self.old }
         ensures wants { result ≡ Err Memory → MayWant self.old entry }
+        ensures judged { OnOk result (length self.old.log ≤ self.new.judged) }
+        ensures judged_too { (why : Refusal) (at : AnyReceipt) → result ≡ Err (Refused why at) → length self.old.log ≤ self.new.judged }
     {
         judge_next(
             &mut self.judge,

@@ -38,11 +38,12 @@ impl<J: Naming> Shard<J> {
         let mut tap = tap;
         let front = tap.newest().front(0);
         Shard {
+            number: shard,
             state: ShardState::start(alloc, shard, shards),
             front,
             tap,
             buffer: EntryBuffer::new(alloc),
-            left: 0,
+            worked_out: false,
             of: PhantomData,
         }
     }
@@ -66,6 +67,7 @@ impl<J: Naming> Shard<J> {
         ensures err { IfErr result (λ fault. fault_at fault ≡ None) }
         ensures reads { OnErr result (length self.old.front < length (entries_of target.now)) }
     {
+        self.worked_out = false;
         let read = read_to(&mut self.state, &mut self.tap, &mut self.buffer, target);
         self.front = target.front(self.state.count());
         read
@@ -108,6 +110,7 @@ impl<J: Naming> Shard<J> {
     }
 
     /// Works out anew at most this many of its groups that an entry touched, so that the next to ask about them needn't.
+    #[tactic(auto, using(crate::proofs::ReadLemmas::none_left))]
     fn renew(&mut self, max: usize) -> Result<(), AskFault>
         ensures same { StaysThere self.old self.new }
         ensures marks { OnOk result (AreUnmarked max (state_of self.old) (state_of self.new)) }
@@ -115,13 +118,24 @@ impl<J: Naming> Shard<J> {
         ensures memory { IfErr result (λ fault. fault ≡ Memory) }
         ensures wants { OnErr result (HasInc self.new.front) }
     {
-        self.left = self.state.renew(max)?;
+        self.worked_out = false;
+        let left = self.state.renew(max)?;
+        self.worked_out = left == 0;
         Ok(())
     }
 
-    /// No group was left to work out after its last turn in which there was nothing to read.
-    pub(crate) fn is_worked_out(&self) -> bool {
-        self.left == 0
+    /// None of its groups is left to work out. It says so only after a turn in which there was nothing to read.
+    pub(crate) fn is_worked_out(&self) -> bool
+        ensures { result ≡ true → self.now.marks ≡ Some [] }
+    {
+        self.worked_out
+    }
+
+    /// Its number.
+    pub(crate) fn number(&self) -> usize
+        ensures { result ≡ self.now.shard }
+    {
+        self.number
     }
 
     /// The log that it has read was closed.

@@ -4,7 +4,7 @@ ghost use Rattle.pgp_thread_tests.specs.Opened.{IsOpened};
 
 use crate::engine::absorbs::{absorb_by_two, ask_ahead, ask_by_first};
 use crate::engine::clients::{outlive, place_by_two};
-use crate::engine::closes::close_and_submit;
+use crate::engine::closes::{close_and_submit, fill_and_close};
 use crate::engine::desk::Desk;
 use crate::engine::growths::call_again;
 use crate::engine::idle::{end_last, work_out};
@@ -31,6 +31,7 @@ pub const TAPS: usize = SHARDS + 3;
 /// What is tried with an engine to which nothing was submitted yet, and with its two clients.
 pub enum Trial {
     Closes,
+    Fills,
     ManySubmits,
     OneEpoch,
     TwoAbsorb,
@@ -94,6 +95,7 @@ fn over<
     let desk = Desk { engine, workers };
     match trial {
         Trial::Closes => close_and_submit(rt, &desk),
+        Trial::Fills => fill_and_close(rt, &desk),
         Trial::ManySubmits => submit_many_times(rt, &desk),
         Trial::OneEpoch => race(rt, &desk),
         Trial::TwoAbsorb => absorb_by_two(rt, &desk),

@@ -5,6 +5,7 @@ use Rattle.pgp_ids.specs.declared.entry.Entry.{Entry}
 use Rattle.pgp_log.specs.Log.{IsFrontOf}
 use Rattle.pgp_feed.specs.declared.receipt.Receipt.{Receipt}
 use Rattle.pgp_feed.specs.Receipts.{entries_of, Holds}
+use Rattle.pgp_engine.specs.Intakes.{ToldLog}
 use Rattle.pgp_engine.proofs.intake.Intake.holds.Goals as goal
 
 holds_log : (b : Bool) (told front : Receipt) (log : List Entry) → entries_of told ≡ log → b ≡ nat_le (length (entries_of front)) (length (entries_of told))
@@ -14,4 +15,4 @@ holds_log false told front log is longer holds = subst (λ (l : List Entry). len
 
 pub returns : goal.returns
 returns g c =
-    holds_log c.holds.result c.told.result c.args.front.now c.args.self.now (ap entries_of c.told.ensures ∙ c.self.view_is) c.holds.ensures.longer c.holds.ensures.holds
+    holds_log c.holds.result c.told.result c.args.front.now c.args.self.now.log (ap entries_of c.told.ensures ∙ ap (λ (t : ToldLog). t.log) c.self.view_is) c.holds.ensures.longer c.holds.ensures.holds
