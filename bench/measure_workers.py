@@ -4,14 +4,14 @@
     bench/measure_workers.py [--program PATH] [--inputs FOLDER] [--runs N] [--shards S] [--workers W...] [NAME...]
 
 PATH is the built program (by default crates/pgpeer/out/pgpeer) and FOLDER what make_inputs.py wrote (by default
-bench/out). NAME is one of those that make_inputs.py names; without one it is ask_heavy and submit_heavy. Each script is
-answered without workers and with each W (by default 1, 2 and 4) and S shards (4), N times each (5), by turns, one at a
-time, and the answers go to nowhere. Prints a table in Markdown: the elapsed seconds, the least and the median, and
-their ratio to those without workers. A run whose answers differ from those without workers is told of and not measured.
-Needs GNU time (Debian: time).
+bench/out). NAME is one of those that make_inputs.py names; without one it is those of the table in README.md. Each
+script is answered without workers and with each W (by default 1, 2 and 4) and S shards (4), N times each (5), by turns,
+one at a time, and the answers go to nowhere. Prints a table in Markdown: the elapsed seconds and those of the processor,
+and their ratios to those without workers. A run whose answers differ from those without workers is told of and not
+measured. Needs GNU time (Debian: time).
 
-Elapsed seconds change with what else the machine does, so the ratio has the least times, and the median of the ratios
-of two runs that stood side by side.
+Seconds change with what else the machine does, so each is the least and the median, and the ratio that of the least, and
+the median of the ratios of two runs that stood side by side.
 """
 
 import argparse
@@ -21,6 +21,8 @@ import subprocess
 import sys
 
 from measure import HERE, alternate, line_count, ratio, table
+
+NAMES = ("down_asked", "map_asked", "locate", "peering_wide", "churn_wide", "ask_heavy", "submit_heavy")
 
 
 def command(program, shards, workers):
@@ -34,9 +36,9 @@ def answers(words, script):
     return run.stdout, run.returncode
 
 
-def seconds(runs):
-    """Gives the least elapsed seconds, and the median."""
-    values = [it.elapsed for it in runs]
+def seconds(runs, part):
+    """Gives the least seconds, elapsed or of the processor, and the median."""
+    values = [getattr(it, part) for it in runs]
     return f"{min(values):.3f} / {statistics.median(values):.3f}"
 
 
@@ -49,19 +51,19 @@ def rows(name, script, options):
             print(f"{name} isn't measured: `{' '.join(words[1:])}` answers it otherwise\n")
             return
     without, *others = alternate(commands, script, options.runs)
-    yield [name, f"{line_count(script):,}", "0", seconds(without), "1"]
-    for workers, runs in zip(options.workers, others):
-        yield [name, f"{line_count(script):,}", str(workers), seconds(runs), ratio(runs, without, "elapsed")]
+    for workers, runs in zip((0, *options.workers), (without, *others)):
+        times = [it for part in ("elapsed", "cpu") for it in (seconds(runs, part), ratio(runs, without, part))]
+        yield [name, f"{line_count(script):,}", str(workers), *times]
 
 
 def main(options):
     found = []
-    for name in options.names or ("ask_heavy", "submit_heavy"):
+    for name in options.names or NAMES:
         script = f"{options.inputs}/{name}.jsonl"
         if not os.path.exists(script):
             sys.exit(f"{script} isn't there. bench/make_inputs.py makes it")
         found += rows(name, script, options)
-    print(table(["script", "lines", "workers", "seconds", "ratio to none"], found))
+    print(table(["script", "lines", "workers", "elapsed, s", "to none", "processor, s", "to none"], found))
 
 
 if __name__ == "__main__":

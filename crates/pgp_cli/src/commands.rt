@@ -21,8 +21,8 @@ A line is one JSON object, and its key op says what it is: inc, info, entries an
 close add to the log; ask, locate and trace ask. Each line is answered by one line
 of JSON, a blank line by none. FORMAT.md (in docs, or in share/doc/pgpeer) tells
 the keys of each and the answers. These are the same, byte for byte, whatever the
-numbers of shards and workers are. Workers answer a script more slowly than none:
-they are for programs that link the library.
+numbers of shards and workers are. Workers pay where a script asks about many
+groups with no entry between: they work groups out ahead, a shard each.
 
 Exit status:
   0  the script was answered to its end

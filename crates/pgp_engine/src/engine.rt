@@ -2,9 +2,11 @@
 use crate::intake::Intake;
 use crate::naming::Naming;
 use crate::shard::Shard;
+use bell::Bell;
 use std::marker::Model;
-use std::sync::{Condvar, Mutex};
+use std::sync::Mutex;
 
+mod bell;
 mod locks;
 mod make;
 mod steps;
@@ -13,8 +15,8 @@ mod work;
 /// One log, with its intake and its shards, for any number of threads. It is not `Drop`: end it by `give_up`.
 pub struct Engine<J: Naming> {
     intake: Mutex<Intake<J>>,
-    // Whoever sleeps here looks at the log under the intake's lock. A submit that was taken wakes all.
-    grown: Condvar,
+    // Rung by each submit that was taken.
+    bell: Bell,
     shards: Vec<Mutex<Shard<J>>>,
     workers: usize,
 }

@@ -11,6 +11,7 @@ ghost use Rattle.pgp_engine.specs.Clients.{IsNew};
 ghost use Rattle.pgp_engine.specs.Fronts.{Names};
 
 use super::Engine;
+use super::bell::Bell;
 use crate::client::Client;
 use crate::intake::Intake;
 use crate::naming::Naming;
@@ -18,7 +19,7 @@ use crate::shard::Shard;
 use pgp_feed::{Feed, MakeFault, Receipt, Tap};
 use pgp_ids::Entry;
 use std::alloc::{AllocError, Global};
-use std::sync::{Arc, Condvar, Mutex, Wait};
+use std::sync::{Arc, Mutex, Wait};
 
 /// This many shards, each with one of the taps, of which the others are left.
 fn make_shards<J: Naming>(
@@ -192,7 +193,7 @@ impl<J: Naming> Engine<J> {
         let tap = taps.pop().unwrap();
         let engine = Engine {
             intake: Mutex::new(Intake::start(alloc, feed, tap)),
-            grown: Condvar::new(),
+            bell: Bell::new(),
             shards: all,
             workers,
         };

@@ -16,6 +16,11 @@ use pgp_feed::Receipt;
 use pgp_ids::{Entry, PgId};
 use std::sync::{MutexGuard, Wait};
 
+// The entry closes the log.
+fn is_close(entry: &Entry) -> bool {
+    matches!(entry, Entry::Close)
+}
+
 impl<J: Naming> Engine<J> {
     /// Publishes the entry, if the log takes it, and answers the receipt of the log with it. `Refused`: a front that holds
     /// the caller's doesn't take it, and the receipt names that one. [`Intake::submit`](crate::Intake::submit) says more.
@@ -37,13 +42,23 @@ impl<J: Naming> Engine<J> {
         ensures submitted { MatchResult result (λ submitted. IsSubmitted q.now entry submitted.at) (MayFailToSubmit q.now entry) }
         ensures epoch { IfOk result (λ submitted. submitted.epoch ≡ epoch_of (entries_of submitted.at)) }
     {
+        let closes = is_close(&entry);
         let mut turn = intake_turn(rt, &self.intake, q);
         let submitted = turn.submit_with_epoch(rt, entry);
         MutexGuard::unlock(turn);
         if submitted.is_ok() {
-            self.grown.notify_all();
+            self.tell_workers(closes);
         }
         submitted
+    }
+
+    /// The log is longer. Who naps needn't know, unless it was closed: then workers end.
+    fn tell_workers(&self, closes: bool) {
+        if closes {
+            self.bell.ring_out();
+        } else {
+            self.bell.ring();
+        }
     }
 
     /// The receipt of the whole log, as it was at some moment of the call.
@@ -85,7 +100,7 @@ impl<J: Naming> Engine<J> {
     pub fn give_up(self, rt: &impl Wait) {
         let Engine {
             intake,
-            grown: _,
+            bell: _,
             shards: _,
             workers: _,
         } = self;

@@ -11,11 +11,13 @@ use crate::naming::Naming;
 use pgp_feed::Receipt;
 use std::sync::{MutexGuard, Wait};
 
-/// How many steps a shard takes at most in one turn of a worker: entries that it reads or, where there is nothing to read,
-/// groups that it works out. So whoever asks waits for no more of them than these. It bounds no time, since an incremental goes
-/// over all groups of the shard. Where the shard doesn't keep its groups yet, working them out makes all of them first, from
-/// all that it has read.
+/// How many steps a shard takes at most in one turn of a worker: entries that it reads or, in a lull, groups that it works out.
+/// So whoever asks waits for no more of them than these. It bounds no time, since an incremental goes over all groups of the
+/// shard. Where the shard doesn't keep its groups yet, working them out makes all of them first, from all that it has read.
 const STEPS_A_TURN: usize = 64;
+
+/// After how many rounds without an entry a lull begins. Between two of them the worker naps.
+const ROUNDS_TO_A_LULL: usize = 8;
 
 /// How far a shard has come, or several of them.
 #[derive(Drop)]
@@ -33,9 +35,10 @@ impl<J: Naming> Engine<J> {
     /// read the Close, and answers the receipt of the closed log. There is none where no shard is of this seat. `Memory` and
     /// `NoReader` end the work, and leave the shards as far as they have read.
     ///
-    /// In each of its turns a shard reads a few entries, between the gate's two calls, or works out anew a few of its groups
-    /// where there is nothing to read. Between the turns the lock is free. After a round in which nothing was read, and which left
-    /// no group to work out, the worker sleeps until the next submit.
+    /// In each of its turns a shard reads a few entries, between the gate's two calls. Between the turns the lock is free. After a
+    /// few rounds in a row without an entry, with a nap after each, it is a lull: from then on, until the next entry, a shard that
+    /// has nothing to read works out a few of its groups anew, and once none is left, the worker sleeps until the next submit. So
+    /// while entries come, nobody works out a group but who asks about it.
     pub fn work<R: Wait, G: Gate>(
         &self,
         rt: &R,
@@ -51,34 +54,49 @@ impl<J: Naming> Engine<J> {
             return Ok(None);
         }
         let mut read = 0;
+        let mut quiet = 0;
         for _ in rt.forever() {
-            let shortest = self.pass(rt, seat, gate)?;
+            let is_lull = quiet >= ROUNDS_TO_A_LULL;
+            let rings = self.bell.listen(is_lull);
+            let shortest = self.pass(rt, seat, gate, is_lull)?;
             if shortest.closed {
                 return Ok(Some(shortest.front));
             }
             let len = shortest.front.len();
-            if len == read && shortest.worked_out {
-                self.sleep(rt, len);
+            if len != read {
+                read = len;
+                quiet = 0;
+            } else if !is_lull {
+                quiet += 1;
+                self.bell.nap(rt);
+            } else if shortest.worked_out {
+                quiet = 0;
+                self.bell.sleep(rt, rings);
             }
-            read = len;
         }
         unreachable!()
     }
 
     /// One turn of each shard of the seat. It answers how far they have come. Of fronts of one log the shortest is closed only
     /// where all are.
-    fn pass<R: Wait, G: Gate>(&self, rt: &R, seat: usize, gate: &G) -> Result<Stand, AskFault>
+    fn pass<R: Wait, G: Gate>(
+        &self,
+        rt: &R,
+        seat: usize,
+        gate: &G,
+        is_lull: bool,
+    ) -> Result<Stand, AskFault>
         requires workers { seat < self.now.workers }
         requires shards { seat < self.now.shards }
         ensures stand { IfOk result (IsStand J.feed) }
         ensures err { IfErr result (λ fault. fault_at fault ≡ None) }
     {
         let shards = self.shards.len();
-        let mut shortest = self.turn(rt, seat, gate)?;
+        let mut shortest = self.turn(rt, seat, gate, is_lull)?;
         let mut worked_out = shortest.worked_out;
         for shard in seat + 1..shards {
             if shard % self.workers == seat {
-                let stand = self.turn(rt, shard, gate)?;
+                let stand = self.turn(rt, shard, gate, is_lull)?;
                 worked_out = worked_out && stand.worked_out;
                 if stand.front.len() < shortest.front.len() {
                     shortest = stand;
@@ -91,15 +109,21 @@ impl<J: Naming> Engine<J> {
         })
     }
 
-    /// A turn of the shard's lock, in which it reads on, or works out its groups, by one turn's steps at most.
-    fn turn<R: Wait, G: Gate>(&self, rt: &R, shard: usize, gate: &G) -> Result<Stand, AskFault>
+    /// A turn of the shard's lock, in which it reads on or, in a lull, may work out its groups, by one turn's steps at most.
+    fn turn<R: Wait, G: Gate>(
+        &self,
+        rt: &R,
+        shard: usize,
+        gate: &G,
+        is_lull: bool,
+    ) -> Result<Stand, AskFault>
         requires { shard < self.now.shards }
         ensures stand { IfOk result (IsStand J.feed) }
         ensures err { IfErr result (λ fault. fault_at fault ≡ None) }
     {
         let mut turn = turn_of(rt, self.shards.as_slice(), shard);
         gate.enter(rt, shard);
-        let front = turn.absorb_some(STEPS_A_TURN);
+        let front = turn.take_turn(STEPS_A_TURN, is_lull);
         let closed = turn.is_closed();
         let worked_out = turn.is_worked_out();
         MutexGuard::unlock(turn);
@@ -109,15 +133,5 @@ impl<J: Naming> Engine<J> {
             closed,
             worked_out,
         })
-    }
-
-    /// Waits until the log is longer than this. A submit that comes after the look at the log finds this thread asleep, and
-    /// wakes it.
-    fn sleep<R: Wait>(&self, rt: &R, len: usize) {
-        let intake = self.intake.lock(rt);
-        let turn = self
-            .grown
-            .wait_while(rt, intake, |intake| intake.receipt().len() <= len);
-        MutexGuard::unlock(turn);
     }
 }

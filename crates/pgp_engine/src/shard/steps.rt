@@ -145,6 +145,19 @@ impl<J: Naming> Shard<J> {
         self.state.is_closed()
     }
 
+    /// A worker's turn: it reads at most this many further entries of the log. Where there are none, it works out anew as many of its
+    /// groups, in a lull.
+    pub(crate) fn take_turn(&mut self, max: usize, is_lull: bool) -> Result<Receipt, AskFault>
+        ensures named { IfOk result (Names J.feed self.new.front) }
+        ensures err { IfErr result (λ fault. fault_at fault ≡ None) }
+    {
+        if is_lull {
+            self.absorb_some(max)
+        } else {
+            self.read_some(max)
+        }
+    }
+
     /// What the shard has read says of one of its groups.
     fn view(&mut self, pg: PgId) -> Result<Answer, AskFault>
         requires serves { Serves self.old pg }

@@ -1,5 +1,5 @@
-//! That a worker works out all groups of its shards before it sleeps, which a gate tells by counting its turns, and that it
-//! ends once all of them have read the Close, where one of them is ahead of the other.
+//! That a worker works out all groups of its shards in a lull, before it sleeps, which a gate tells by counting its turns, and that
+//! it ends once all of them have read the Close, where one of them is ahead of the other.
 ghost use Rattle.std.specs.Prelude.{◌<◌};
 ghost use Rattle.pgp_thread_tests.specs.declared.engine.opened.TheConstants.{SHARDS};
 
@@ -17,9 +17,12 @@ use std::thread;
 use std::thread::{Threads, join};
 use std::time::{Clock, Duration};
 
+/// After how many rounds without an entry a lull begins.
+const QUIET: usize = 8;
+
 /// How many turns one worker takes with both shards until nothing is left to do. The second shard reads the map in one turn, and
-/// works out its 128 groups in two more. The first has nothing to do in these rounds.
-const NEEDED: usize = 3 * SHARDS;
+/// works out its 128 groups in two more, once a lull has begun. The first has nothing to do in these rounds.
+const NEEDED: usize = (1 + QUIET + 2) * SHARDS;
 
 /// How many groups each shard has.
 const GROUPS: usize = 128;

@@ -35,10 +35,10 @@ pub fn submit_and_close<
 }
 
 /// How many infos are submitted, each to workers that sleep.
-const INFOS: usize = 20;
+const INFOS: usize = 10;
 
 /// Both shards read each info by themselves, though the workers had time to fall asleep before it. No gate forces it that they
-/// sleep: a millisecond is ample for them to find that there is nothing to read.
+/// sleep: thirty milliseconds are ample for a lull to begin, and for them to find that there is nothing to do.
 pub fn wake_each<J: Naming, R: Wait + Abort + Clock + AllocGlobal>(
     rt: &R,
     desk: &Desk<J>,
@@ -46,7 +46,7 @@ pub fn wake_each<J: Naming, R: Wait + Abort + Clock + AllocGlobal>(
 ) {
     wait_until_read(rt, desk, map.len());
     for _ in 0..INFOS {
-        thread::sleep(rt, Duration::from_millis(1));
+        thread::sleep(rt, Duration::from_millis(30));
         let told = desk.put_all(rt, &[EMPTY_0]);
         wait_until_read(rt, desk, told.len());
     }
