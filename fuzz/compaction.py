@@ -96,14 +96,14 @@ class Later:
 
 
 def places_left(log: model.Model, entries: List[Line], left_out: str = "") -> List[int]:
-    """Which of the entries of a log an answer can still need, ascending, the first being 0."""
+    """Which of the entries of a log remain where it is compacted, ascending, the first being 0."""
     later = Later(log)
     back = reversed(list(enumerate(entries)))
     return [at for at, it in back if it["op"] in ("inc", "close") or later.reasons(it) - {left_out}][::-1]
 
 
 def compacted(lines: List[Line], left_out: str = "") -> List[Line]:
-    """The entries of these, which make up a legal log, that an answer can still need."""
+    """The entries of these, which make up a legal log, that remain where it is compacted."""
     log = model.Model()
     for line in lines:
         log.answer(grammar.compact(line))

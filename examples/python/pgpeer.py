@@ -123,7 +123,7 @@ class Session:
         return self._list(self._calls.pgp_missing_objects, Object, pool, pg, osd, slot)
 
     def compact(self) -> int:
-        """Leaves out the entries that no answer can need any more, and says how many they were."""
+        """Leaves out reports that no answer needs any more, and says how many they were."""
         left_out = ctypes.c_size_t()
         self._made(self._calls.pgp_compact_log(ctypes.byref(self._kept), ctypes.byref(left_out)))
         return left_out.value

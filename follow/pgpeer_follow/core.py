@@ -98,7 +98,7 @@ class Core:
 
 
 def compacted(program: str, script: Sequence[bytes]) -> List[bytes]:
-    """The lines of a script that an answer can still need. CoreFault: the program didn't say."""
+    """The lines of a script that remain where it is compacted. CoreFault: the program didn't say."""
     text = b"".join(line + b"\n" for line in script)
     try:
         ended = subprocess.run([program, "compact"], input=text, capture_output=True, timeout=COMPACTING, check=False)

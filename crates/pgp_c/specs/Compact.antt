@@ -5,7 +5,7 @@ use Rattle.pgp_core.specs.Session.{LogAndAnswer}
 use Rattle.pgp_c.specs.Status.{status_number}
 use Rattle.pgp_c.specs.declared.status.Status.TheVariants.{Done, NoMemory, NotOpen}
 
--- the log has only the entries that an answer can need, and this many fewer than before
+-- the log is compacted, and has this many entries fewer than before
 pub record IsCompacted (was now : LogAndAnswer) (left_out status : ℕ) : Type 0 where
   pub log : now.log ≡ compacted was.log
   pub less : left_out ≡ length was.log - length now.log

@@ -1,4 +1,4 @@
-//! The log of a session without the entries that no answer can need.
+//! The log of a session without reports that no answer needs.
 
 ghost use Rattle.std.specs.Prelude.{◌≡◌, ◌-◌, length, IfOk, OnOk, OnErr};
 ghost use Rattle.pgp_compact.specs.Compacted.{compacted};
@@ -8,7 +8,7 @@ use pgp_compact::laws::a_compacted_log_is_legal;
 use pgp_core::Session;
 use std::alloc::{AllocError, Global};
 
-/// Removes from the session's log the entries that no answer can need, and answers their number.
+/// Removes from the session's log reports that no answer needs, and answers their number.
 pub fn compact_log(alloc: Global, session: &mut Session) -> Result<usize, AllocError>
     ensures log { OnOk result (session.new.log ≡ compacted session.old.log) }
     ensures less { IfOk result (λ less. less ≡ length session.old.log - length session.new.log) }

@@ -174,7 +174,7 @@ pub extern "C" fn pgp_submit_info(alloc: Global, session: &mut PgpSession, info:
     status
 }
 
-/// Removes from the session's log the entries that no answer can need, and puts their number into `left_out`.
+/// Removes from the session's log reports that no answer needs, and puts their number into `left_out`.
 #[unsafe(no_mangle)]
 pub extern "C" fn pgp_compact_log(
     alloc: Global,

@@ -54,12 +54,12 @@ Exit status:
 /// What `pgpeer compact --help` says after its usage.
 const COMPACT_HELP: &str = "\
 The script is read as 'pgpeer run' reads it: each line is judged by the lines
-before it. The lines whose entries an answer can still need, now or after
-whatever lines follow, are written as they are: all incrementals, and the reports
-that nothing later makes needless. Questions, blank lines and refused lines are
-left out. Standard error says how many entries were left out. A run of what is
-written, and of any lines behind it, gives the same answers, with two exceptions:
-each count is less, and a log that was full may have room.
+before it. The lines that add entries are written as they are, all incrementals
+among them, except for reports that no answer needs, now or after whatever lines
+follow. Questions, blank lines and refused lines are left out too. Standard error
+says how many entries were left out. A run of what is written, and of any lines
+behind it, gives the same answers, with two exceptions: each count is less, and a
+log that was full may have room.
 
 Example:
   pgpeer compact < script.jsonl > shorter.jsonl
@@ -133,7 +133,7 @@ fn explain<'a>(alloc: Global) -> Result<Command<'a>, AllocError> {
 fn compact<'a>(alloc: Global) -> Command<'a> {
     Command::new(alloc, "compact")
         .about(
-            "Reads a script from standard input and writes the lines that an answer can still need",
+            "Reads a script from standard input and writes it without reports that no answer needs",
         )
         .after_help(COMPACT_HELP)
 }

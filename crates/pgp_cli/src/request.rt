@@ -57,7 +57,7 @@ pub enum Request {
     Run(RunOptions),
     /// To explain what a script says of its groups.
     Explain(ExplainOptions),
-    /// To write the lines of a script that an answer can still need.
+    /// To write the lines of a script that remain.
     Compact,
 }
 

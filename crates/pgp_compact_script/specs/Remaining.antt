@@ -1,11 +1,11 @@
--- The lines of a script that an answer can need, now or after whatever lines follow. This project's own choice.
+-- The lines of a script that remain where its log is compacted. This project's own choice.
 use Rattle.std.specs.Prelude.{ℕ, List, [], ◌∷◌, ◌++◌, map, flat_map}
 use Rattle.pgp_core.specs.Added.{EntryLine, entries_of, entry_lines}
 use Rattle.pgp_core.specs.Lines.{lines_of}
 use Rattle.pgp_compact.specs.Compacted.{is_needed}
 use Rattle.pgp_compact.specs.Needed.{needed_of}
 
--- of the lines that make a log those whose entry an answer can need
+-- of the lines that make a log those whose entry remains
 abbrev pub remaining : List EntryLine → List EntryLine
 remaining lines = needed_of (λ later it. is_needed (entries_of lines) (entries_of later) it.entry) lines
 

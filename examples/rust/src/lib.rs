@@ -99,7 +99,7 @@ impl Session {
         listed(|room, length, count| unsafe { raw::pgp_missing_objects(kept, pool, pg, osd, slot, room, length, count) })
     }
 
-    /// Leaves out the entries that no answer can need any more, and says how many they were.
+    /// Leaves out reports that no answer needs any more, and says how many they were.
     pub fn compact(&mut self) -> Result<usize, Fault> {
         let mut left_out = 0;
         // SAFETY: the session is this one's alone.
