@@ -1,14 +1,14 @@
 //! The log of a script, and what it takes next.
-ghost use Rattle.std.specs.Prelude.{◌≡◌, List, [], map, false, true, IfOk, OnOk, OnErr};
+ghost use Rattle.std.specs.Prelude.{◌≡◌, List, [], map, is_some, false, true, IfOk, OnOk, OnErr};
 ghost use Rattle.std.specs.Arc.{arc_value};
 ghost use Rattle.pgp_ids.specs.declared.entry.Entry.{Entry as AnyEntry};
 ghost use Rattle.pgp_map.specs.MapOf.{IsMapOf};
-ghost use Rattle.pgp_map.specs.Pools.{pool};
+ghost use Rattle.pgp_map.specs.Pools.{has_group, pool};
 ghost use Rattle.pgp_group.specs.Entries.{incs_of};
 ghost use Rattle.pgp_group.specs.View.{scratch};
 ghost use Rattle.pgp_text.specs.Commands.{Submit};
 ghost use Rattle.pgp_log.specs.Fits.{fits};
-ghost use Rattle.pgp_log.specs.Log.{is_legal};
+ghost use Rattle.pgp_log.specs.Log.{HasInc, is_legal};
 ghost use Rattle.pgp_log.specs.RawSets.{AreRawSets};
 ghost use Rattle.pgp_log.specs.Running.{IsReading};
 ghost use Rattle.pgp_log.specs.Shard.{HasReadSame, is_marked, is_own};
@@ -20,7 +20,7 @@ use super::answerer::{Answerer, NoReply};
 use super::replies::{asked_reply, traced_reply};
 use super::want::Want;
 use pgp_ids::{AskRefusal, Entry, LocateRefusal, ObjectName, PgId, PoolId, Refusal, View};
-use pgp_log::{JudgedLog, RawSets, ShardState};
+use pgp_log::{JudgedLog, RawSets, ShardState, has_group};
 use pgp_map::OsdMap;
 use pgp_text::{Command, EntryOp, LineRefusal, Reply, ReplyWriter};
 use std::alloc::{AllocError, Global};
@@ -106,17 +106,18 @@ impl Log {
         }
     }
 
-    /// All that the log says of a group, where its map has it.
+    /// All that the log says of a group, where its map has it: only then it may be out of memory.
     pub fn ask(&mut self, pg: PgId) -> Result<Option<View>, AllocError>
         ensures view { IfOk result (λ view. view ≡ scratch self.old pg) }
+        ensures memory { OnErr result (has_group (incs_of self.old) pg ≡ true) }
         ensures same { self.new ≡ self.old }
     {
-        self.shard.absorb_next(self.log.entries(), self.log.len())?;
-        match self.shard.ask(pg) {
-            Ok(view) => Ok(Some(view)),
-            Err(AskRefusal::UnknownGroup) => Ok(None),
-            Err(AskRefusal::Memory) => Err(AllocError),
+        if !has_group(self.log.map(), &pg) {
+            return Ok(None);
         }
+        self.shard.absorb_next(self.log.entries(), self.log.len())?;
+        let view = self.shard.ask(pg).or(Err(AllocError))?;
+        Ok(Some(view))
     }
 
     /// The reply to an entry. Where the log takes it, the log has it from now on.
@@ -188,10 +189,13 @@ impl Answerer for Log {
     }
 }
 
-/// Has the only shard of a log work out the group, where there is one. What it has read stays.
+/// Has the only shard of a log work out the group, where there is one. It is out of memory only where an incremental was read,
+/// and, where the marks are there, only where the group is marked. What the shard has read stays.
 fn work_out(shard: &mut ShardState, pg: &PgId) -> Result<(), AllocError>
     requires { is_own shard.old.shard shard.old.shards pg.now ≡ true }
     ensures unmarked { OnOk result (is_marked shard.new pg.now ≡ false) }
+    ensures memory { OnErr result (HasInc shard.old.front) }
+    ensures memory_marked { OnErr result (is_some shard.old.marks ≡ true → is_marked shard.old pg.now ≡ true) }
     ensures same { HasReadSame shard.old shard.new }
 {
     match shard.work_out(pg) {

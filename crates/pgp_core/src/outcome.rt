@@ -1,8 +1,9 @@
 //! What a line of a script is to a log that takes its entries and answers nothing.
 
-ghost use Rattle.std.specs.Prelude.{◌≡◌, ℕ, List, IfOk, OnErr};
+ghost use Rattle.std.specs.Prelude.{◌≡◌, ◌≢◌, ℕ, List, IfOk, OnErr};
 ghost use Rattle.pgp_text.specs.Commands.{Ask, Locate, Submit};
 ghost use Rattle.pgp_core.specs.Added.{IsOutcome, IsOutcomeOf, added_by, taken_from, with_added};
+ghost use Rattle.pgp_core.specs.Wants.{MayFindNone, MayLackEntry, TakesMemory};
 
 use super::line::{LONGEST_LINE, all_blank};
 use super::log::Log;
@@ -27,7 +28,7 @@ impl Log {
     /// Reads a line, given without its line feed, and takes its entry, if it is one that fits. Nothing is answered: a question
     /// isn't worked out.
     ///
-    /// An error says that there was no memory, and the log stays as it was.
+    /// An error says that there was no memory to read the line or for its entry, and the log stays as it was.
     pub fn read_line(
         &mut self,
         alloc: Global,
@@ -37,6 +38,7 @@ impl Log {
         ensures outcome { IfOk result (IsOutcome self.old line.now) }
         ensures log { IfOk result (λ _. self.new ≡ with_added self.old (added_by self.old line.now)) }
         ensures kept { OnErr result (self.new ≡ self.old) }
+        ensures memory { OnErr result (TakesMemory line.now) }
     {
         if all_blank(line) {
             return Ok(LineOutcome::Blank);
@@ -46,17 +48,28 @@ impl Log {
         }
         match reader.read(alloc, line) {
             Ok(command) => obey(self, command),
-            Err(TextFault::Memory) => Err(AllocError),
-            Err(fault) => Ok(LineOutcome::Refused(LineRefusal::Line(fault))),
+            Err(fault) => fault_outcome(fault),
         }
     }
 }
 
-/// Takes the entry of the command, if it is one that fits.
+/// What a line is to the log where reading it ended with this fault, or that there was no memory to read it.
+fn fault_outcome(fault: TextFault) -> Result<LineOutcome, AllocError>
+    ensures outcome { IfOk result (λ outcome. (fault ≢ TextFault.Memory) × (outcome ≡ LineOutcome.Refused (LineRefusal.Line fault))) }
+    ensures memory { OnErr result (fault ≡ TextFault.Memory) }
+{
+    match fault {
+        TextFault::Memory => Err(AllocError),
+        fault => Ok(LineOutcome::Refused(LineRefusal::Line(fault))),
+    }
+}
+
+/// Takes the entry of the command, if it is one that fits. Only for that there may be no memory.
 fn obey(log: &mut Log, command: Command) -> Result<LineOutcome, AllocError>
     ensures outcome { IfOk result (IsOutcomeOf log.old command) }
     ensures log { IfOk result (λ _. log.new ≡ with_added log.old (taken_from log.old command)) }
     ensures kept { OnErr result (log.new ≡ log.old) }
+    ensures memory { OnErr result (MayLackEntry log.old command) }
 {
     match command {
         Command::Submit(entry) => entry_outcome(log, entry),
@@ -71,6 +84,7 @@ fn entry_outcome(log: &mut Log, entry: Entry) -> Result<LineOutcome, AllocError>
     ensures outcome { IfOk result (IsOutcomeOf log.old (Submit entry)) }
     ensures log { IfOk result (λ _. log.new ≡ with_added log.old (taken_from log.old (Submit entry))) }
     ensures kept { OnErr result (log.new ≡ log.old) }
+    ensures memory { OnErr result (MayFindNone log.old (Submit entry)) }
 {
     match log.take_if_fits(entry)? {
         None => Ok(LineOutcome::Taken),

@@ -1,6 +1,6 @@
 //! A log that one thread tells and asks, line by line or in values, with no reader and no writer.
 
-ghost use Rattle.std.specs.Prelude.{◌≡◌, [], map, true, OnOk, IfOk, OnErr};
+ghost use Rattle.std.specs.Prelude.{◌≡◌, [], map, is_some, true, OnOk, IfOk, OnErr};
 ghost use Rattle.std.specs.Arc.{arc_value};
 ghost use Rattle.pgp_log.specs.Log.{is_legal};
 ghost use Rattle.pgp_text.specs.Commands.{Locate, Submit};
@@ -122,10 +122,11 @@ impl Session {
         self.log.locate(id, name)
     }
 
-    /// All that the log says of a group, where its map has it.
+    /// All that the log says of a group, where its map has it: only then it may be out of memory.
     #[tactic(auto, unfolding(crate::specs::Session::view_in))]
     pub fn ask(&mut self, pg: PgId) -> Result<Option<View>, AllocError>
         ensures view { IfOk result (λ view. view ≡ view_in self.old.log pg) }
+        ensures memory { OnErr result (is_some (view_in self.old.log pg) ≡ true) }
         ensures same { self.new ≡ self.old }
     {
         self.log.ask(pg)
