@@ -3,7 +3,7 @@
 //!
 //! Each line is answered by a front of the engine's one log that holds all that the lines before it were told of. The bytes
 //! don't show how many shards and workers there are.
-ghost use Rattle.std.specs.Prelude.{◌≡◌, ◌+◌, ◌⊎◌, ◌≤◌, [], false, length, All, IfErr, OnOk};
+ghost use Rattle.std.specs.Prelude.{◌≡◌, ◌+◌, ◌⊎◌, ◌≤◌, [], false, true, length, All, IfErr, OnOk};
 ghost use Rattle.pgp_core.specs.Account.{account};
 ghost use Rattle.pgp_core.specs.Run.{AllAnswered, Stopped, script_bounds};
 ghost use Rattle.pgp_feed.specs.Feeds.{told_of};
@@ -48,6 +48,7 @@ pub fn run_engine<R: Source, W: Sink, T: Threads + Wait + Sync>(
         ⊎ Stopped false script_bounds
         (account (R.remaining reader.old) (W.contents writer.old) (R.failed reader.old) (W.failed writer.old))
         (account (R.remaining reader.new) (W.contents writer.new) (R.failed reader.new) (W.failed writer.new)) fault) }
+    ensures passed_on { OnOk result (W.passed_on writer.new ≡ true) }
 {
     let Ok((feed, taps)) = Feed::make(rt, alloc, shards + 2) else {
         return Err(ScriptFault::Gone);
@@ -76,6 +77,7 @@ fn run_over<J: Naming + Send + Sync, R: Source, W: Sink, T: Threads + Wait + Syn
     ensures err { IfErr result (λ fault. ((fault ≡ ScriptFault.Gone) × (reader.new ≡ reader.old) × (writer.new ≡ writer.old))
         ⊎ Stopped false script_bounds (account (R.remaining reader.old) (W.contents writer.old) (R.failed reader.old) (W.failed writer.old))
         (account (R.remaining reader.new) (W.contents writer.new) (R.failed reader.new) (W.failed writer.new)) fault) }
+    ensures passed_on { OnOk result (W.passed_on writer.new ≡ true) }
 {
     let (feed, taps) = made;
     let Ok((engine, mut clients)) = Engine::<J>::make(rt, alloc, feed, taps, shards, workers) else {
@@ -117,6 +119,7 @@ fn run_among_workers<'r, 'w, J: Naming + Send + Sync, R: Source, W: Sink, T: Thr
     ensures err { IfErr result.outcome (λ fault. ((fault ≡ ScriptFault.Gone) × (result.reader.now ≡ reader.entry.now) × (result.writer.now ≡ writer.entry.now))
         ⊎ Stopped false script_bounds (account (R.remaining reader.entry.now) (W.contents writer.entry.now) (R.failed reader.entry.now) (W.failed writer.entry.now))
         (account (R.remaining result.reader.now) (W.contents result.writer.now) (R.failed result.reader.now) (W.failed result.writer.now)) fault) }
+    ensures passed_on { OnOk result.outcome (W.passed_on result.writer.now ≡ true) }
 {
     thread::scope(
         thread::scope_env(),
@@ -130,6 +133,7 @@ fn run_among_workers<'r, 'w, J: Naming + Send + Sync, R: Source, W: Sink, T: Thr
             ensures err { IfErr result.outcome (λ fault. ((fault ≡ ScriptFault.Gone) × (result.reader.now ≡ reader.entry.now) × (result.writer.now ≡ writer.entry.now))
                 ⊎ Stopped false script_bounds (account (R.remaining reader.entry.now) (W.contents writer.entry.now) (R.failed reader.entry.now) (W.failed writer.entry.now))
                 (account (R.remaining result.reader.now) (W.contents result.writer.now) (R.failed result.reader.now) (W.failed result.writer.now)) fault) }
+            ensures passed_on { OnOk result.outcome (W.passed_on result.writer.now ≡ true) }
         {
             if !all_started(rt, scope, engine, workers) {
                 close(rt, engine);
@@ -163,6 +167,7 @@ fn answer_by<J: Naming, R: Source, W: Sink, T: Wait>(
         (account (R.remaining reader.new) (W.contents writer.new) (R.failed reader.new) (W.failed writer.new))) }
     ensures err { IfErr result (Stopped false script_bounds (account (R.remaining reader.old) (W.contents writer.old) (R.failed reader.old) (W.failed writer.old))
         (account (R.remaining reader.new) (W.contents writer.new) (R.failed reader.new) (W.failed writer.new))) }
+    ensures passed_on { OnOk result (W.passed_on writer.new ≡ true) }
 {
     let mut answerer = EngineAnswerer::new(rt, engine, client);
     answer_script(alloc, &mut answerer, reader, writer, SCRIPT_BOUNDS)

@@ -1,5 +1,6 @@
 //! What the program does, over any reader and writers, and how it ends.
 
+ghost use Rattle.std.specs.Prelude.{◌≡◌, true};
 ghost use Rattle.pgp_cli.specs.Status.{HasEnded};
 ghost use Rattle.pgp_core.specs.Account.{account};
 
@@ -29,9 +30,10 @@ pub fn status_of<R: Source, W: Sink, E: Write, T: Threads + Wait + Sync>(
     writer: &mut W,
     errors: &mut E,
 ) -> Ending
-    ensures { HasEnded result
+    ensures ended { HasEnded result
         (account (R.remaining reader.old) (W.contents writer.old) (R.failed reader.old) (W.failed writer.old))
         (account (R.remaining reader.new) (W.contents writer.new) (R.failed reader.new) (W.failed writer.new)) }
+    ensures passed_on { result ≡ Ending.Done → W.passed_on writer.new ≡ true }
 {
     match read_request(alloc, words) {
         Ok(Request::Run(options)) => run(rt, alloc, options, reader, writer, errors),
@@ -50,9 +52,10 @@ fn run<R: Source, W: Sink, E: Write, T: Threads + Wait + Sync>(
     writer: &mut W,
     errors: &mut E,
 ) -> Ending
-    ensures { HasEnded result
+    ensures ended { HasEnded result
         (account (R.remaining reader.old) (W.contents writer.old) (R.failed reader.old) (W.failed writer.old))
         (account (R.remaining reader.new) (W.contents writer.new) (R.failed reader.new) (W.failed writer.new)) }
+    ensures passed_on { result ≡ Ending.Done → W.passed_on writer.new ≡ true }
 {
     let RunOptions { shards, workers } = options;
     let outcome = if workers == 0 {
@@ -90,9 +93,10 @@ fn explain_script<R: Source, W: Sink, E: Write>(
     writer: &mut W,
     errors: &mut E,
 ) -> Ending
-    ensures { HasEnded result
+    ensures ended { HasEnded result
         (account (R.remaining reader.old) (W.contents writer.old) (R.failed reader.old) (W.failed writer.old))
         (account (R.remaining reader.new) (W.contents writer.new) (R.failed reader.new) (W.failed writer.new)) }
+    ensures passed_on { result ≡ Ending.Done → W.passed_on writer.new ≡ true }
 {
     let outcome = explain(
         alloc,
@@ -109,16 +113,17 @@ fn explain_script<R: Source, W: Sink, E: Write>(
     }
 }
 
-/// Writes the lines of the script that an answer can still need, and reports how many entries were left out.
+/// Writes the lines of the script that remain, and reports how many entries were left out.
 fn compact<R: Source, W: Sink, E: Write>(
     alloc: Global,
     reader: &mut R,
     writer: &mut W,
     errors: &mut E,
 ) -> Ending
-    ensures { HasEnded result
+    ensures ended { HasEnded result
         (account (R.remaining reader.old) (W.contents writer.old) (R.failed reader.old) (W.failed writer.old))
         (account (R.remaining reader.new) (W.contents writer.new) (R.failed reader.new) (W.failed writer.new)) }
+    ensures passed_on { result ≡ Ending.Done → W.passed_on writer.new ≡ true }
 {
     match compact_script(alloc, reader, writer) {
         Ok(counts) => {

@@ -1,5 +1,5 @@
 //! Help, and the messages where the program does not do what it is asked for.
-ghost use Rattle.std.specs.Prelude.{◌≡◌};
+ghost use Rattle.std.specs.Prelude.{◌≡◌, true};
 ghost use Rattle.pgp_cli.specs.Status.{HasShown};
 
 use super::ending::Ending;
@@ -20,7 +20,8 @@ pub fn help_or_usage<W: Sink, E: Write>(
     writer: &mut W,
     errors: &mut E,
 ) -> Ending
-    ensures { HasShown result (W.contents writer.old) (W.contents writer.new) (W.failed writer.old) (W.failed writer.new) }
+    ensures shown { HasShown result (W.contents writer.old) (W.contents writer.new) (W.failed writer.old) (W.failed writer.new) }
+    ensures passed_on { result ≡ Ending.Done → W.passed_on writer.new ≡ true }
 {
     if error.use_stderr() {
         return usage(error, words, errors);
@@ -64,7 +65,8 @@ fn tell_source<E: Write>(words: &[String], errors: &mut E) {
 
 /// Shows the text of help.
 fn show_help<W: Sink, E: Write>(help: &str, writer: &mut W, errors: &mut E) -> Ending
-    ensures { HasShown result (W.contents writer.old) (W.contents writer.new) (W.failed writer.old) (W.failed writer.new) }
+    ensures shown { HasShown result (W.contents writer.old) (W.contents writer.new) (W.failed writer.old) (W.failed writer.new) }
+    ensures passed_on { result ≡ Ending.Done → W.passed_on writer.new ≡ true }
 {
     match pass_on(writer, help.as_bytes()) {
         Ok(()) => Ending::Done,

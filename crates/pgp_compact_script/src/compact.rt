@@ -24,7 +24,7 @@ pub struct Compaction {
     pub refused: u64,
 }
 
-/// Writes the lines of the script whose entries an answer can need, by its log or by whatever follows it: byte for byte, in
+/// Writes the lines of the script whose entries remain of its log where that is compacted: byte for byte, in
 /// their order, each with a line feed.
 ///
 /// Nothing is written before the script is read to its end. At a fault nothing is written either, except at
@@ -43,6 +43,7 @@ pub fn compact_script<R: Source, W: Sink>(
         (W.contents writer.old) (W.contents writer.new) (W.failed writer.new) }
     ensures quiet { OnErr result (result ≢ Err CompactFault.Write → writer.new ≡ writer.old) }
     ensures kept { OnOk result (W.failed writer.new ≡ W.failed writer.old) }
+    ensures passed_on { OnOk result (W.passed_on writer.new ≡ true) }
     ensures kept_reader { result ≢ Err (CompactFault.Script WholeFault.Read) → R.failed reader.new ≡ R.failed reader.old }
 {
     let script = read_whole(alloc, reader, SCRIPT_BOUNDS)?;

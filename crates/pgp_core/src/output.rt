@@ -49,6 +49,7 @@ impl Output {
         ensures err { OnErr result (FrontWent (W.contents writer.old) (W.contents writer.new) self.old.pending.items) }
         ensures failed { OnErr result (W.failed writer.new ≡ true) }
         ensures kept { OnOk result (W.failed writer.new ≡ W.failed writer.old) }
+        ensures passed_on { OnOk result (W.passed_on writer.new ≡ true) }
     {
         pass_on(writer, self.pending.as_slice())?;
         self.pending.clear();
@@ -101,6 +102,7 @@ pub fn pass_on<W: Sink>(writer: &mut W, text: &[u8]) -> Result<(), WriteFault>
     ensures err { OnErr result (FrontWent (W.contents writer.old) (W.contents writer.new) text.now) }
     ensures failed { OnErr result (W.failed writer.new ≡ true) }
     ensures kept { OnOk result (W.failed writer.new ≡ W.failed writer.old) }
+    ensures passed_on { OnOk result (W.passed_on writer.new ≡ true) }
 {
     write_out(writer, text)?;
     writer.flush().or(Err(WriteFault))

@@ -68,6 +68,7 @@ impl Script {
             → AreAnswered A.alone start lines (A.log answerer.old) (W.contents writer.old) self.old.output.pending.items
             → (fault ≢ ScriptFault.Read) × IsStopped A.alone start fault (W.contents writer.new) (lines ++ (line ++ piece.now) ∷ others)) }
         ensures failed { WritesFailed result (W.failed writer.old) (W.failed writer.new) }
+        ensures passed_on { IfErr result (λ fault. fault ≢ ScriptFault.Write → W.passed_on writer.new ≡ true) }
         ensures left { self.new.input.left ≡ self.old.input.left }
     {
         let answer = self.input.line.answer(
@@ -90,6 +91,7 @@ impl Script {
         ensures went { WentBy result (W.contents writer.old) (W.contents writer.new) self.old.output.pending.items }
         ensures not_gone { result ≢ ScriptFault.Gone }
         ensures failed { WriteFailedBy result (W.failed writer.old) (W.failed writer.new) }
+        ensures passed_on { result ≢ ScriptFault.Write → W.passed_on writer.new ≡ true }
     {
         match self.output.close(writer) {
             Ok(()) => ScriptFault::Read,
@@ -116,6 +118,7 @@ impl Script {
             → IsAfter A.alone start self.old (A.log answerer.old) (W.contents writer.old) bytes
             → StopsIn A.alone start fault (W.contents writer.new) (bytes ++ (piece.now ++ 10 ∷ more))) }
         ensures failed { WritesFailed result (W.failed writer.old) (W.failed writer.new) }
+        ensures passed_on { IfErr result (λ fault. fault ≢ ScriptFault.Write → W.passed_on writer.new ≡ true) }
     {
         self.put_answer(alloc, piece, answerer, writer)?;
         self.input.end_line(piece);
@@ -140,6 +143,7 @@ impl Script {
             → IsAfter A.alone start self.old (A.log answerer.old) (W.contents writer.old) bytes
             → StopsIn A.alone start fault (W.contents writer.new) (bytes ++ chunk.now)) }
         ensures failed { WritesFailed result (W.failed writer.old) (W.failed writer.new) }
+        ensures passed_on { IfErr result (λ fault. fault ≢ ScriptFault.Write → W.passed_on writer.new ≡ true) }
     {
         let mut rest = chunk;
         while !rest.is_empty() {
@@ -175,6 +179,7 @@ impl Script {
             → IsAfter A.alone start self.old (A.log answerer.old) (W.contents writer.old) bytes
             → StoppedAtLast A.alone start fault (W.contents writer.new) bytes) }
         ensures failed { WritesFailed result (W.failed writer.old) (W.failed writer.new) }
+        ensures passed_on { IfErr result (λ fault. fault ≢ ScriptFault.Write → W.passed_on writer.new ≡ true) }
     {
         if self.input.line.started {
             self.put_answer(alloc, &[], answerer, writer)
@@ -197,6 +202,7 @@ impl Script {
             → IsAfter A.alone start self.old (A.log answerer.old) (W.contents writer.old) bytes
             → StoppedAtLast A.alone start fault (W.contents writer.new) bytes) }
         ensures failed { WritesFailed result (W.failed writer.old) (W.failed writer.new) }
+        ensures passed_on { result ≢ Err ScriptFault.Write → W.passed_on writer.new ≡ true }
     {
         self.put_last(alloc, answerer, writer)?;
         self.output.close(writer)?;
@@ -225,6 +231,7 @@ impl Script {
             → Stops A.alone start fault from (R.remaining reader.new) (W.contents writer.new) (R.failed reader.new)) }
         ensures reads { ReadsFailed result (R.failed reader.old) (R.failed reader.new) }
         ensures writes { WritesFailed result (W.failed writer.old) (W.failed writer.new) }
+        ensures passed_on { IfErr result (λ fault. fault ≢ ScriptFault.Write → W.passed_on writer.new ≡ true) }
     {
         self.output.close(writer)?;
         let count = match reader.read(chunk) {
@@ -249,6 +256,7 @@ pub fn run_script<R: Source, W: Sink>(
         (account (R.remaining reader.old) (W.contents writer.old) (R.failed reader.old) (W.failed writer.old))
         (account (R.remaining reader.new) (W.contents writer.new) (R.failed reader.new) (W.failed writer.new))) }
     ensures never_gone { result ≢ Err ScriptFault.Gone }
+    ensures passed_on { result ≢ Err ScriptFault.Write → W.passed_on writer.new ≡ true }
 {
     run_script_within(
         alloc,
@@ -279,6 +287,7 @@ pub fn run_script_within<R: Source, W: Sink>(
         (account (R.remaining reader.old) (W.contents writer.old) (R.failed reader.old) (W.failed writer.old))
         (account (R.remaining reader.new) (W.contents writer.new) (R.failed reader.new) (W.failed writer.new))) }
     ensures never_gone { result ≢ Err ScriptFault.Gone }
+    ensures passed_on { result ≢ Err ScriptFault.Write → W.passed_on writer.new ≡ true }
 {
     let bounds = Bounds {
         lines: max_lines,
@@ -304,6 +313,7 @@ pub fn answer_script<A: Answerer, R: Source, W: Sink>(
     ensures err { IfErr result (WasStopped A.alone bounds (A.log answerer.old)
         (account (R.remaining reader.old) (W.contents writer.old) (R.failed reader.old) (W.failed writer.old))
         (account (R.remaining reader.new) (W.contents writer.new) (R.failed reader.new) (W.failed writer.new))) }
+    ensures passed_on { result ≢ Err ScriptFault.Write → W.passed_on writer.new ≡ true }
 {
     let mut chunk = [0u8; CHUNK];
     let mut script = Script::new(alloc, bounds);

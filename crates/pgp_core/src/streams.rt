@@ -36,6 +36,9 @@ pub trait Sink {
     // A write failed, or took no byte of some, or passing the bytes on failed.
     ghost failed: { Self → Bool };
 
+    // No byte that it took waits to be passed on.
+    ghost passed_on: { Self → Bool };
+
     /// Writes a first part of `buf`, and says how many bytes it took.
     fn write(&mut self, buf: &[u8]) -> io::Result<usize>
         ensures bound { WritesAtMost result buf.now }
@@ -48,5 +51,6 @@ pub trait Sink {
     fn flush(&mut self) -> io::Result<()>
         ensures bytes { Keeps (contents self.old) (contents self.new) }
         ensures kept { OnOk result (failed self.new ≡ failed self.old) }
-        ensures failed { OnErr result (failed self.new ≡ true) };
+        ensures failed { OnErr result (failed self.new ≡ true) }
+        ensures passed_on { OnOk result (passed_on self.new ≡ true) };
 }

@@ -38,6 +38,7 @@ pub fn explain<R: Source, W: Sink, E: Write>(
     ensures ok { OnOk result (IsExplained (question pg json epoch_offset) (R.remaining reader.old) (R.remaining reader.new)
         (W.contents writer.old) (W.contents writer.new)) }
     ensures kept { OnOk result (W.failed writer.new ≡ W.failed writer.old) }
+    ensures passed_on { OnOk result (W.passed_on writer.new ≡ true) }
     // A read failed, or the script is too large. At every other outcome no read failed.
     ensures read { result ≡ Err (ExplainFault.Script WholeFault.Read) → R.failed reader.new ≡ true }
     ensures large { result ≡ Err (ExplainFault.Script WholeFault.TooLarge) → GivesTooMuch script_bounds (R.remaining reader.old) (R.remaining reader.new) }
@@ -62,6 +63,7 @@ pub fn explain<R: Source, W: Sink, E: Write>(
 fn write_text<W: Sink>(writer: &mut W, text: &str) -> Result<(), ExplainFault>
     ensures ok { OnOk result (Appends (W.contents writer.old) (W.contents writer.new) text.now) }
     ensures kept { OnOk result (W.failed writer.new ≡ W.failed writer.old) }
+    ensures passed_on { OnOk result (W.passed_on writer.new ≡ true) }
     ensures err { IfErr result (λ fault. (fault ≡ ExplainFault.Write) × (W.failed writer.new ≡ true)
         × FrontWent (W.contents writer.old) (W.contents writer.new) text.now) }
 {

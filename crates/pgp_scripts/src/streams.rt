@@ -48,11 +48,14 @@ impl AnswerWriter {
 }
 
 impl Sink for AnswerWriter {
-    ghost use Rattle.std.specs.Prelude.{Some};
+    ghost use Rattle.std.specs.Prelude.{Some, true};
 
     ghost contents = { λ taken. Some taken.bytes.items };
 
     ghost failed = { λ taken. taken.failed };
+
+    // What it took lies with its reader.
+    ghost passed_on = { λ _. true };
 
     fn write(&mut self, buf: &[u8]) -> io::Result<usize> {
         match self.bytes.extend_from_slice(buf) {
