@@ -14,7 +14,7 @@ use Rattle.pgp_text.specs.EntryOp.{entry_op}
 use Rattle.pgp_log.specs.Fits.{fits}
 use Rattle.pgp_log.specs.Locate.{place_with, place_of_object}
 use Rattle.pgp_log.specs.Log.{epoch_of, is_legal, IsFrontOf}
-use Rattle.pgp_log.proofs.LogLemmas.{legal-last}
+use Rattle.pgp_log.proofs.LogLemmas.{front-legal, legal-last, legal-take}
 use Rattle.pgp_core.specs.Answer.{located_reply, submitted_reply, log_with}
 use Rattle.pgp_core.specs.Answerer.{Replies}
 use Rattle.pgp_core.proofs.LocateLemmas.{located-there}
@@ -40,8 +40,11 @@ submitted q r entry count epoch s counts at =
     let one : length (entries_of r) ≡ length s.before + 1 = ap length s.last ∙ length-append s.before (entry ∷ []) in
     record {
       by = s.before;
-      may = front-before (entries_of q) s.before s.holds.front.rest entry (sym s.last ∙ s.holds.front.whole)
-          (subst (λ (log : List Entry). length (entries_of q) < length log) s.last s.longer);
+      may = (
+        front-before (entries_of q) s.before s.holds.front.rest entry (sym s.last ∙ s.holds.front.whole)
+            (subst (λ (log : List Entry). length (entries_of q) < length log) s.last s.longer),
+        λ _. front-legal s.before (entry ∷ []) (subst (λ (log : List Entry). is_legal log ≡ true) s.last s.legal),
+      );
       is = ap₂ (Accepted (entry_op entry)) (counts ∙ one) (at ∙ ap epoch_of s.last) ∙ ap (submitted_reply s.before entry) (sym fit);
       log = s.last ∙ ap (log_with s.before entry) (sym fit);
     }
@@ -50,10 +53,14 @@ pub refused : (q at : Receipt) (entry : Entry) (reason : Refusal) → IsRefusedA
     → Replies false (entries_of q) (entries_of at) (Submit entry) (Refused (why.Entry reason))
 refused q at entry reason r = record {
   by = entries_of at;
-  may = r.holds.front;
+  may = (r.holds.front, λ _. r.legal);
   is = ap (submitted_reply (entries_of at) entry) (sym r.refused);
   log = ap (log_with (entries_of at) entry) (sym r.refused);
 }
+
+-- each receipt names a legal log
+pub named-legal : (r : Receipt) → is_legal (entries_of r) ≡ true
+named-legal r = legal-take r.len r.seen.log r.legal
 
 -- ---- objects
 
@@ -63,7 +70,7 @@ pub located : (q at : Receipt) (id : ℕ) (name : List ℕ) (pg : PgId) (members
     → Replies false (entries_of q) (entries_of at) (Locate id name) (Located pg members now)
 located q at id name pg members now later lies epoch = record {
   by = entries_of at;
-  may = later;
+  may = (later, λ _. named-legal at);
   is = located-there (entries_of at) id name (place_with pg members) now lies epoch;
   log = refl;
 }
@@ -72,7 +79,7 @@ pub lies-nowhere : (q at : Receipt) (id : ℕ) (name : List ℕ) → IsFrontOf (
     → Replies false (entries_of q) (entries_of at) (Locate id name) (Refused (why.Locate UnknownPool))
 lies-nowhere q at id name later none = record {
   by = entries_of at;
-  may = later;
+  may = (later, λ _. named-legal at);
   is = ap (located_reply (entries_of at) id name) (sym none);
   log = refl;
 }

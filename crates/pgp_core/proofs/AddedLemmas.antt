@@ -1,5 +1,5 @@
 -- What a line that adds an entry is, and the log that the lines of a script make.
-use Rattle.std.proofs.Common.{◌≡◌, ℕ, List, [], ◌∷◌, ◌++◌, true, false, Option, Some, None, Result, Ok, Err, length, map, nat_lt, refl, sym, ap, ◌∙◌, append_assoc, append-nil, inl, inr}
+use Rattle.std.proofs.Common.{◌≡◌, ℕ, List, [], ◌∷◌, ◌++◌, Bool, true, false, Option, Some, None, Result, Ok, Err, length, map, nat_lt, refl, sym, ap, ◌∙◌, append_assoc, append-nil, inl, inr}
 use Rattle.std.proofs.lemmas.Bool.{cases_Bool}
 use Rattle.pgp_ids.specs.declared.entry.Entry.{Entry}
 use Rattle.pgp_ids.specs.declared.refusal.Refusal.{Refusal}
@@ -12,7 +12,9 @@ use Rattle.pgp_log.proofs.LogLemmas.{legal-snoc}
 use Rattle.pgp_core.specs.Added.{EntryLine, added_by, entries_of, entry_line, entry_lines, taken_by, taken_from, with_added}
 use Rattle.pgp_core.specs.Answer.{log_of, log_with}
 use Rattle.pgp_core.specs.Lines.{is_blank}
+use Rattle.pgp_core.specs.Answerer.{MayAnswerBy}
 use Rattle.pgp_core.specs.Script.{log_past, logs, longest_line}
+use Rattle.pgp_core.specs.WrittenFor.{AreWrittenFor, IsWrittenFor}
 use Rattle.pgp_core.specs.declared.want.Want.{Want}
 
 -- ---- one line
@@ -105,3 +107,26 @@ lines-made log (line ∷ lines) =
     λ added is. ap (λ l. logs l (no_wants lines) lines) (added-past log line ∙ ap (with_added log) is) in
     lines-cases P log line lines (λ none. after None none ∙ lines-made log lines)
     (λ entry adds. after (Some entry) adds ∙ lines-made (log ++ entry ∷ []) lines ∙ append_assoc log (entry ∷ []) (entries_of (entry_lines (log ++ entry ∷ []) lines)))
+
+-- ---- whoever answers
+
+past-legal : (log : List Entry) (met : Option Want) (line : List ℕ) → is_legal log ≡ true → is_legal (log_past log met line) ≡ true
+past-legal log (Some want) line legal = legal
+past-legal log None line legal = ap is_legal (added-past log line) ∙ go (added_by log line) refl where
+  go : (added : Option Entry) → added_by log line ≡ added → is_legal (with_added log added) ≡ true
+  go None is = legal
+  go (Some entry) is = legal-snoc log entry legal (adding log line entry is).fit
+
+pub answered-legal : (alone : Bool) (before by : List Entry) → MayAnswerBy alone before by → is_legal before ≡ true → is_legal by ≡ true
+answered-legal true before by may legal = ap is_legal may ∙ legal
+answered-legal false before by may legal = may.1 legal
+
+-- lines that are answered make a legal log of a legal one
+pub written-legal : (alone : Bool) (before after : List Entry) (lines : List (List ℕ)) (text : List ℕ) → AreWrittenFor alone before lines after text
+    → is_legal before ≡ true → is_legal after ≡ true
+written-legal alone before after [] text written legal = ap is_legal written.0 ∙ legal
+written-legal alone before after (line ∷ lines) text written legal =
+    let turn = written.0 in
+    let first : IsWrittenFor alone before turn.log line turn.first = written.1.0 in
+    let past : is_legal turn.log ≡ true = ap is_legal first.log_is ∙ past-legal first.by first.met line (answered-legal alone before first.by first.may legal) in
+    written-legal alone turn.log after lines turn.others written.1.1 past

@@ -12,7 +12,7 @@ use Rattle.pgp_core.proofs.ScriptLemmas.{answers-cons}
 
 pub by-itself : (alone : Bool) (log : List Entry) → MayAnswerBy alone log log
 by-itself true log = refl
-by-itself false log = record { rest = []; whole = sym (append-nil log) }
+by-itself false log = (record { rest = []; whole = sym (append-nil log) }, λ legal. legal)
 
 -- a line that was out of memory has its constant text
 pub written-want : (alone : Bool) (before after : List Entry) (line old new : List ℕ) (want : Want) → MayMeet (Some want) line → MayAnswerBy alone before after → new ≡ old

@@ -4,14 +4,14 @@ use Rattle.pgp_ids.specs.declared.entry.Entry.{Entry}
 use Rattle.pgp_text.specs.Commands.{Command}
 use Rattle.pgp_text.specs.declared.reply.Reply.{Reply}
 use Rattle.pgp_text.specs.declared.reply.Reply.TheVariants.{Accepted, Asked, Located, Traced, Refused}
-use Rattle.pgp_log.specs.Log.{IsFrontOf}
+use Rattle.pgp_log.specs.Log.{IsFrontOf, is_legal}
 use Rattle.pgp_core.specs.Answer.{reply_of, log_after}
 
 -- By which log a command may be answered: by the one that there was, where nobody else adds to it, and else by any one of
--- which that is a front.
+-- which that is a front, and which is legal if that is.
 abbrev pub MayAnswerBy : Bool → List Entry → List Entry → Type 0
 MayAnswerBy true log by = by ≡ log
-MayAnswerBy false log by = IsFrontOf log by
+MayAnswerBy false log by = IsFrontOf log by × (is_legal log ≡ true → is_legal by ≡ true)
 
 -- this is the reply to the command, and the log goes from `before` to `after`
 pub record Replies (alone : Bool) (before after : List Entry) (command : Command) (reply : Reply) : Type 0 where

@@ -2,8 +2,7 @@
 ghost use Rattle.std.specs.Prelude.{◌≡◌, [], false, IfOk, IfErr, OnErr};
 ghost use Rattle.pgp_lines.specs.declared.command.Command.TheVariants.{Submit, Ask, Locate};
 ghost use Rattle.pgp_group.specs.View.{scratch};
-ghost use Rattle.pgp_log.specs.Log.{IsFrontOf};
-ghost use Rattle.pgp_core.specs.Answerer.{Replies};
+ghost use Rattle.pgp_core.specs.Answerer.{MayAnswerBy, Replies};
 ghost use Rattle.pgp_core.specs.Wants.{LacksReply};
 
 use pgp_core::{Answerer, NoReply, Want, asked_reply, traced_reply};
@@ -57,7 +56,7 @@ impl<'a, J: Naming, T: Wait> EngineAnswerer<'a, J, T> {
     /// The reply to an entry. `Gone`: no copy of the log was lent to judge it by.
     fn submit(&mut self, entry: Entry) -> Result<Reply, NoReply>
         ensures reply { IfOk result (λ reply. Replies false self.old self.new (Submit entry) reply) }
-        ensures kept { OnErr result (IsFrontOf self.old self.new) }
+        ensures kept { OnErr result (MayAnswerBy false self.old self.new) }
         ensures lacks { IfErr result (LacksReply false (Submit entry)) }
     {
         let op = EntryOp::of(&entry);
@@ -80,7 +79,7 @@ impl<'a, J: Naming, T: Wait> EngineAnswerer<'a, J, T> {
     /// to the group's shard.
     fn ask(&mut self, pg: PgId) -> Result<Option<View>, NoReply>
         ensures view { IfOk result (λ view. view ≡ scratch self.new pg) }
-        ensures later { IsFrontOf self.old self.new }
+        ensures later { MayAnswerBy false self.old self.new }
         ensures lacks { IfErr result (LacksReply false (Ask pg)) }
     {
         match self.engine.ask(self.rt, pg, &self.at) {
@@ -100,7 +99,7 @@ impl<'a, J: Naming, T: Wait> EngineAnswerer<'a, J, T> {
     /// The reply to the question where an object lies. `Gone`: no copy of the log was lent to the client.
     fn locate(&mut self, pool: PoolId, name: &ObjectName) -> Result<Reply, NoReply>
         ensures reply { IfOk result (λ reply. Replies false self.old self.new (Locate pool name.now) reply) }
-        ensures kept { OnErr result (IsFrontOf self.old self.new) }
+        ensures kept { OnErr result (MayAnswerBy false self.old self.new) }
         ensures lacks { IfErr result (LacksReply false (Locate pool name.now)) }
     {
         self.client.learn(&self.at);

@@ -4,4 +4,4 @@ use Rattle.pgp_cli.proofs.engine_run.answerer.EngineAnswererAnswerer.reply.Goals
 
 pub returns-in_ok-traced_reply-in-Trace-clause-reply : goal.returns-in_ok-traced_reply-in-Trace-clause-reply
 returns-in_ok-traced_reply-in-Trace-clause-reply g c =
-    rw c.in-Trace.is (record { by = c.args.self.now; may = front_self c.args.self.now; is = c.in_ok-traced_reply-in-Trace.ensures; log = refl })
+    rw c.in-Trace.is (record { by = c.args.self.now; may = (front_self c.args.self.now, λ legal. legal); is = c.in_ok-traced_reply-in-Trace.ensures; log = refl })
