@@ -6,6 +6,7 @@ use Rattle.std_heap.specs.contracts.Global as Heap
 use Rattle.std_heap.specs.contracts.GlobalAllocator.TheImpl.{ghosts}
 use Rattle.json.proofs.scratch.Scratch.TheSendSync.{the_send as scratch}
 use Rattle.pgp_lines.specs.contracts.command.LineReader as LineReader
+use Rattle.pgp_lines.proofs.command.format.Format.TheSendSync.{the_send as format}
 use Rattle.pgp_text.proofs.reply.ReplyWriter.TheSendSync.{the_send as writer}
 use Rattle.pgp_core.specs.contracts.codec.Codec as Codec
 use Rattle.pgp_core.specs.contracts.session.Session as Session
@@ -15,7 +16,7 @@ use Rattle.pgp_core.proofs.session.LastAnswer.TheSendSync.{the_send as last}
 use Rattle.pgp_c.proofs.ArenaSend.{Bump-send}
 
 reader : IsSend LineReader.the_row
-reader = declared_send LineReader.the_type (scratch Heap.the_row ghosts heap.send heap.frees, (Bump-send, tt))
+reader = declared_send LineReader.the_type (format, (scratch Heap.the_row ghosts heap.send heap.frees, (Bump-send, tt)))
 
 codec : IsSend Codec.the_row
 codec = declared_send Codec.the_type (reader, (writer, tt))

@@ -20,6 +20,7 @@ pub record IsKept (was now : LogAndAnswer) (left_out status : ℕ) : Type 0 wher
 -- The log of a session was compacted, which goes from `was` to `now`.
 pub record CompactsIn (was now : LogAndAnswer) (left_out status : ℕ) : Type 0 where
   pub answer : now.answer ≡ was.answer
+  pub format : now.format ≡ was.format
   pub log : IsCompacted was now left_out status ⊎ IsKept was now left_out status
 
 -- The log of a session was compacted, where there is one.

@@ -1,11 +1,12 @@
 -- What the exported calls do. This project's own choice.
-use Rattle.std.specs.Prelude.{◌≡◌, ℕ, List, [], ◌++◌, Option, Some, None, nat_le, length, drop, if◌then◌else◌}
+use Rattle.std.specs.Prelude.{◌≡◌, ℕ, List, [], ◌++◌, Option, Some, None, nat_eq, nat_le, length, drop, if◌then◌else◌}
+use Rattle.pgp_text.specs.Commands.{Format, Two, Three}
 use Rattle.pgp_core.specs.Script.{MayMeet, answer, log_past}
 use Rattle.pgp_core.specs.Session.{LogAndAnswer}
 use Rattle.pgp_core.specs.declared.want.Want.{Want}
 use Rattle.pgp_c.specs.Status.{status_number}
 use Rattle.pgp_c.specs.declared.status.Status.{Status}
-use Rattle.pgp_c.specs.declared.status.Status.TheVariants.{Done, RoomTooSmall, NoMemory, NotOpen, AlreadyOpen}
+use Rattle.pgp_c.specs.declared.status.Status.TheVariants.{Done, RoomTooSmall, NoMemory, NotOpen, AlreadyOpen, BadArgument}
 
 -- room into which the text is put, where it fits; else it stays
 abbrev pub put_in : {A : Type 0} → List A → List A → List A
@@ -23,9 +24,10 @@ line_status (Some want) text room = NoMemory
 -- A line was told to a session, which goes from `was` to `now`. `met` is what there was no memory for, if anything.
 pub record IsTold (was now : LogAndAnswer) (line : List ℕ) (old new : List ℕ) (len : ℕ) (status : ℕ) : Type 0 where
   pub met : Option Want
-  pub meets : MayMeet met line
-  pub log : now.log ≡ log_past was.log met line
-  pub answer_is : now.answer ≡ answer was.log met line
+  pub meets : MayMeet was.format met line
+  pub log : now.log ≡ log_past was.format was.log met line
+  pub answer_is : now.answer ≡ answer was.format was.log met line
+  pub format : now.format ≡ was.format
   pub room : new ≡ put_in now.answer old
   pub len_is : len ≡ length now.answer
   pub status_is : status ≡ status_number (line_status met now.answer old)
@@ -37,11 +39,17 @@ Tells None (Some now) line old new len status = ⊥
 Tells (Some was) None line old new len status = ⊥
 Tells (Some was) (Some now) line old new len status = IsTold was now line old new len status
 
--- A session was opened: it has an empty log, and has answered no line. One that is open, or for which there is no memory, stays.
-abbrev pub Opens : Option LogAndAnswer → Option LogAndAnswer → ℕ → Type 0
-Opens (Some was) now status = (now ≡ Some was) × (status ≡ status_number AlreadyOpen)
-Opens None None status = status ≡ status_number NoMemory
-Opens None (Some now) status = (now.log ≡ []) × (now.answer ≡ []) × (status ≡ status_number Done)
+-- the version of this number, where a session may read lines up to it
+abbrev pub session_format : ℕ → Option Format
+session_format number = if nat_eq number 2 then Some Two else (if nat_eq number 3 then Some Three else None)
+
+-- A session was opened that reads lines up to this version: it has an empty log, and has answered no line. One that is open, for
+-- which there is no memory, or whose version is none, stays.
+abbrev pub Opens : Option Format → Option LogAndAnswer → Option LogAndAnswer → ℕ → Type 0
+Opens format (Some was) now status = (now ≡ Some was) × (status ≡ status_number AlreadyOpen)
+Opens None None now status = (now ≡ None) × (status ≡ status_number BadArgument)
+Opens (Some format) None None status = status ≡ status_number NoMemory
+Opens (Some format) None (Some now) status = (now.format ≡ format) × (now.log ≡ []) × (now.answer ≡ []) × (status ≡ status_number Done)
 
 -- A session was closed, where there was one.
 abbrev pub Closes : Option LogAndAnswer → Option LogAndAnswer → ℕ → Type 0

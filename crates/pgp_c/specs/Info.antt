@@ -63,6 +63,7 @@ pub record IsLacking (was now : LogAndAnswer) (new : Entry) (status : ℕ) : Typ
 -- An info was told to a session, which goes from `was` to `now`.
 pub record SubmitsIn (was now : LogAndAnswer) (info : PgpInfo) (status : ℕ) : Type 0 where
   pub answer : now.answer ≡ was.answer
+  pub format : now.format ≡ was.format
   pub bad : (IsInfo info → ⊥) → (now.log ≡ was.log) × (status ≡ status_number BadArgument)
   pub good : IsInfo info → IsTaken was now (entry_of info) status ⊎ IsLacking was now (entry_of info) status
 

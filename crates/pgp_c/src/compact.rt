@@ -13,6 +13,7 @@ pub fn compact_log(alloc: Global, session: &mut Session) -> Result<usize, AllocE
     ensures log { OnOk result (session.new.log ≡ compacted session.old.log) }
     ensures less { IfOk result (λ less. less ≡ length session.old.log - length session.new.log) }
     ensures answer { session.new.answer ≡ session.old.answer }
+    ensures format { session.new.format ≡ session.old.format }
     ensures kept { OnErr result (session.new.log ≡ session.old.log) }
 {
     a_compacted_log_is_legal();

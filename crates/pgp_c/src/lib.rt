@@ -7,10 +7,11 @@
 //! proofs by hand.
 #![tactic(auto)]
 
-ghost use Rattle.std.specs.Prelude.{◌≡◌, map};
+ghost use Rattle.std.specs.Prelude.{◌≡◌, Some, map};
+ghost use Rattle.pgp_text.specs.Commands.{Two};
 ghost use Rattle.pgp_c.specs.Ask.{Asks};
 ghost use Rattle.pgp_c.specs.Compact.{Compacts};
-ghost use Rattle.pgp_c.specs.Exports.{Opens, Closes, Tells, Repeats};
+ghost use Rattle.pgp_c.specs.Exports.{Opens, Closes, Tells, Repeats, session_format};
 ghost use Rattle.pgp_c.specs.Info.{Submits};
 ghost use Rattle.pgp_c.specs.Lists.{Lists, device_of, interval_of, member_of, peer_of};
 ghost use Rattle.pgp_c.specs.Locate.{Locates};
@@ -24,6 +25,7 @@ mod info;
 mod lists;
 mod locate;
 mod objects;
+mod open;
 mod place;
 mod room;
 mod session;
@@ -36,7 +38,8 @@ use info::{PgpInfo, member_of, submit_info};
 use lists::{PgpInterval, PgpMember, PgpPeer};
 use locate::locate;
 use objects::{PgpObject, put_objects};
-use pgp_core::Session;
+use open::{open, session_format};
+use pgp_text::Format;
 use place::PgpPlace;
 use room::put_out;
 use session::PgpSession;
@@ -47,21 +50,20 @@ use view::{PgpView, view_of};
 /// Version 0.1.0.
 const VERSION: u32 = 100;
 
-/// Opens a session with an empty log.
+/// Opens a session with an empty log, which reads lines of versions 1 and 2.
 #[unsafe(no_mangle)]
 pub extern "C" fn pgp_open(alloc: Global, session: &mut PgpSession) -> u32
-    ensures { Opens session.old.held.session session.new.held.session result }
+    ensures { Opens (Some Two) session.old.held.session session.new.held.session result }
 {
-    if session.is_open {
-        return Status::AlreadyOpen.number();
-    }
-    match Box::new(alloc, Session::new(alloc)) {
-        Ok(opened) => {
-            session.put(opened);
-            Status::Done.number()
-        }
-        Err(_) => Status::NoMemory.number(),
-    }
+    open(alloc, session, Some(Format::Two))
+}
+
+/// Opens a session with an empty log, which reads lines up to the version of this number: 2 or 3.
+#[unsafe(no_mangle)]
+pub extern "C" fn pgp_open_format(alloc: Global, session: &mut PgpSession, format: u32) -> u32
+    ensures { Opens (session_format format) session.old.held.session session.new.held.session result }
+{
+    open(alloc, session, session_format(format))
 }
 
 /// Ends a session, and frees its memory.

@@ -3,6 +3,7 @@ use Rattle.std.specs.Prelude.{◌≡◌, ◌⊎◌, List, ℕ, Bool, true, Optio
 use Rattle.std.specs.Io.KnownBytes.{Appends}
 use Rattle.pgp_compact_script.specs.Compaction.{IsCompacted, IsCutShort as CompactIsCut}
 use Rattle.pgp_compact_script.specs.declared.compact.Compaction.{Compaction}
+use Rattle.pgp_text.specs.Commands.{Format}
 use Rattle.pgp_core.specs.Account.{Account, NoCallFailed}
 use Rattle.pgp_core.specs.Output.{FrontWent}
 use Rattle.pgp_core.specs.Run.{AllAnswered, Stopped, script_bounds}
@@ -14,13 +15,15 @@ use Rattle.pgp_cli.specs.declared.ending.Ending.TheVariants.{Done, Usage, Fault}
 -- a script was answered to its end, by one thread alone or over an engine, and no call failed
 pub record RunIsDone (before after : Account) : Type 0 where
   pub alone : Bool
-  pub answered : AllAnswered alone script_bounds before after
+  pub format : Format
+  pub answered : AllAnswered alone format script_bounds before after
 
 -- a fault stopped the run, and what had been answered by then stands
 pub record RunIsStopped (before after : Account) : Type 0 where
   pub alone : Bool
+  pub format : Format
   pub fault : ScriptFault
-  pub stopped : Stopped alone script_bounds before after fault
+  pub stopped : Stopped alone format script_bounds before after fault
 
 -- a script was read to its end, the writer got what its log says of a group or of all, and no call failed
 pub record ExplainIsDone (before after : Account) : Type 0 where
@@ -30,8 +33,9 @@ pub record ExplainIsDone (before after : Account) : Type 0 where
 
 -- the writer got the lines that remain of the reader's script, and no call failed
 pub record CompactIsDone (before after : Account) : Type 0 where
+  pub format : Format
   pub counts : Compaction
-  pub compacted : IsCompacted counts before.remaining after.remaining before.contents after.contents
+  pub compacted : IsCompacted format counts before.remaining after.remaining before.contents after.contents
   pub quiet : NoCallFailed before after
 
 -- what help or a message about the words did to the writer, by how that ended: a text of help was written; nothing was; or a
@@ -50,7 +54,7 @@ pub record HelpIsShown (before after : Account) : Type 0 where
 -- a write failed: a first part went out of what a log says of a group or of all, of the lines that remain of a script, or of help
 pub record IsCut (before after : Account) : Type 0 where
   pub part : ((asked : Question) × ExplainIsCut asked before.remaining after.remaining before.contents after.contents)
-      ⊎ (CompactIsCut before.remaining after.remaining before.contents after.contents after.write_failed
+      ⊎ (((format : Format) × CompactIsCut format before.remaining after.remaining before.contents after.contents after.write_failed)
       ⊎ ((text : List ℕ) × FrontWent before.contents after.contents text))
   pub failed : after.write_failed ≡ true
 

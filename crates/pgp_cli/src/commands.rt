@@ -70,6 +70,8 @@ Exit status:
   3  a read or a write failed, the script has more than 1000000 lines or
      4294967296 bytes, or it was out of memory";
 
+const FORMAT_HELP: &str = "Up to which version of the format lines are read, 2 or 3 [default: 2]";
+
 const SHARDS_HELP: &str = "How many shards share the groups, 1 to 64 [default: 1]";
 
 const WORKERS_HELP: &str =
@@ -94,6 +96,7 @@ pub fn parse<'a>(alloc: Global, words: &'a [String]) -> Result<ArgMatches<'a>, E
 fn pgpeer<'a>(alloc: Global) -> Result<Command<'a>, AllocError> {
     let run = run(alloc)?;
     let explain = explain(alloc)?;
+    let compact = compact(alloc)?;
     Command::new(alloc, "pgpeer")
         .version("0.1.0")
         .about("Says where objects lie and whether placement groups may serve, from lines of JSON")
@@ -101,19 +104,20 @@ fn pgpeer<'a>(alloc: Global) -> Result<Command<'a>, AllocError> {
         .subcommand_required(true)
         .subcommand(run)?
         .subcommand(explain)?
-        .subcommand(compact(alloc))
+        .subcommand(compact)
 }
 
-/// `run [--shards N] [--workers N]`
+/// `run [--shards N] [--workers N] [--format N]`
 fn run<'a>(alloc: Global) -> Result<Command<'a>, AllocError> {
     Command::new(alloc, "run")
         .about("Reads a script from standard input and answers it line by line")
         .after_help(RUN_HELP)
         .arg(count(alloc, "shards", SHARDS_HELP))?
-        .arg(count(alloc, "workers", WORKERS_HELP))
+        .arg(count(alloc, "workers", WORKERS_HELP))?
+        .arg(count(alloc, "format", FORMAT_HELP))
 }
 
-/// `explain [PG] [--json] [--epoch-offset N]`
+/// `explain [PG] [--json] [--epoch-offset N] [--format N]`
 fn explain<'a>(alloc: Global) -> Result<Command<'a>, AllocError> {
     let json = Arg::new(alloc, "json")
         .long("json")
@@ -126,16 +130,18 @@ fn explain<'a>(alloc: Global) -> Result<Command<'a>, AllocError> {
         .after_help(EXPLAIN_HELP)
         .arg(Arg::new(alloc, "pg").value_name("PG").help(GROUP_HELP))?
         .arg(json)?
-        .arg(count(alloc, "epoch-offset", OFFSET_HELP))
+        .arg(count(alloc, "epoch-offset", OFFSET_HELP))?
+        .arg(count(alloc, "format", FORMAT_HELP))
 }
 
-/// `compact`
-fn compact<'a>(alloc: Global) -> Command<'a> {
+/// `compact [--format N]`
+fn compact<'a>(alloc: Global) -> Result<Command<'a>, AllocError> {
     Command::new(alloc, "compact")
         .about(
             "Reads a script from standard input and writes it without reports that no answer needs",
         )
         .after_help(COMPACT_HELP)
+        .arg(count(alloc, "format", FORMAT_HELP))
 }
 
 /// An option that takes a number.
@@ -152,5 +158,12 @@ pub fn run_error(alloc: Global, kind: ErrorKind, message: &str) -> Result<Error,
 pub fn explain_error(alloc: Global, kind: ErrorKind, message: &str) -> Result<Error, AllocError> {
     explain(alloc)?
         .bin_name("pgpeer explain")?
+        .error(kind, message)
+}
+
+/// An error of `pgpeer compact`, with its usage.
+pub fn compact_error(alloc: Global, kind: ErrorKind, message: &str) -> Result<Error, AllocError> {
+    compact(alloc)?
+        .bin_name("pgpeer compact")?
         .error(kind, message)
 }

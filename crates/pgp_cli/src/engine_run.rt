@@ -17,6 +17,7 @@ use answerer::EngineAnswerer;
 use pgp_core::{SCRIPT_BOUNDS, ScriptFault, Sink, Source, answer_script};
 use pgp_engine::{Client, Engine, Naming};
 use pgp_feed::{Feed, Tap};
+use pgp_text::Format;
 use std::alloc::Global;
 use std::marker::Brand;
 use std::sync::Wait;
@@ -24,7 +25,8 @@ use std::thread;
 use std::thread::Threads;
 use workers::{all_started, close};
 
-/// Answers the script that the reader gives over an engine of this many shards and workers: at most a million lines, and 4 GiB.
+/// Answers the script that the reader gives over an engine of this many shards and workers: at most a million lines and 4 GiB, with
+/// lines up to this version.
 ///
 /// The workers have threads of their own; the lines are answered on this one. At the end, and after a fault, the log is closed
 /// if the script didn't close it, which has no answer, and the workers are waited for. A fault says what it leaves:
@@ -34,6 +36,7 @@ use workers::{all_started, close};
 pub fn run_engine<R: Source, W: Sink, T: Threads + Wait + Sync>(
     rt: &T,
     alloc: Global,
+    format: Format,
     reader: &mut R,
     writer: &mut W,
     shards: usize,
@@ -41,11 +44,11 @@ pub fn run_engine<R: Source, W: Sink, T: Threads + Wait + Sync>(
 ) -> Result<(), ScriptFault>
     requires shards { (1 ≤ shards) × (shards ≤ 64) }
     requires workers { (1 ≤ workers) × (workers ≤ 64) }
-    ensures ok { OnOk result (AllAnswered false script_bounds
+    ensures ok { OnOk result (AllAnswered false format script_bounds
         (account (R.remaining reader.old) (W.contents writer.old) (R.failed reader.old) (W.failed writer.old))
         (account (R.remaining reader.new) (W.contents writer.new) (R.failed reader.new) (W.failed writer.new))) }
     ensures err { IfErr result (λ fault. ((fault ≡ ScriptFault.Gone) × (reader.new ≡ reader.old) × (writer.new ≡ writer.old))
-        ⊎ Stopped false script_bounds
+        ⊎ Stopped false format script_bounds
         (account (R.remaining reader.old) (W.contents writer.old) (R.failed reader.old) (W.failed writer.old))
         (account (R.remaining reader.new) (W.contents writer.new) (R.failed reader.new) (W.failed writer.new)) fault) }
     ensures passed_on { OnOk result (W.passed_on writer.new ≡ true) }
@@ -53,13 +56,23 @@ pub fn run_engine<R: Source, W: Sink, T: Threads + Wait + Sync>(
     let Ok((feed, taps)) = Feed::make(rt, alloc, shards + 2) else {
         return Err(ScriptFault::Gone);
     };
-    run_over::<Brand, R, W, T>(rt, alloc, (feed, taps), reader, writer, shards, workers)
+    run_over::<Brand, R, W, T>(
+        rt,
+        alloc,
+        format,
+        (feed, taps),
+        reader,
+        writer,
+        shards,
+        workers,
+    )
 }
 
 /// The same over a feed that was just made.
 fn run_over<J: Naming + Send + Sync, R: Source, W: Sink, T: Threads + Wait + Sync>(
     rt: &T,
     alloc: Global,
+    format: Format,
     made: (Feed, Vec<Tap>),
     reader: &mut R,
     writer: &mut W,
@@ -72,10 +85,10 @@ fn run_over<J: Naming + Send + Sync, R: Source, W: Sink, T: Threads + Wait + Syn
     requires each { All (λ tap. last_of tap ≡ told_of made.0) made.1.items }
     requires shards { (1 ≤ shards) × (shards ≤ 64) }
     requires workers { (1 ≤ workers) × (workers ≤ 64) }
-    ensures ok { OnOk result (AllAnswered false script_bounds (account (R.remaining reader.old) (W.contents writer.old) (R.failed reader.old) (W.failed writer.old))
+    ensures ok { OnOk result (AllAnswered false format script_bounds (account (R.remaining reader.old) (W.contents writer.old) (R.failed reader.old) (W.failed writer.old))
         (account (R.remaining reader.new) (W.contents writer.new) (R.failed reader.new) (W.failed writer.new))) }
     ensures err { IfErr result (λ fault. ((fault ≡ ScriptFault.Gone) × (reader.new ≡ reader.old) × (writer.new ≡ writer.old))
-        ⊎ Stopped false script_bounds (account (R.remaining reader.old) (W.contents writer.old) (R.failed reader.old) (W.failed writer.old))
+        ⊎ Stopped false format script_bounds (account (R.remaining reader.old) (W.contents writer.old) (R.failed reader.old) (W.failed writer.old))
         (account (R.remaining reader.new) (W.contents writer.new) (R.failed reader.new) (W.failed writer.new)) fault) }
     ensures passed_on { OnOk result (W.passed_on writer.new ≡ true) }
 {
@@ -84,7 +97,7 @@ fn run_over<J: Naming + Send + Sync, R: Source, W: Sink, T: Threads + Wait + Syn
         return Err(ScriptFault::Gone);
     };
     let client = clients.pop().unwrap();
-    let ended = run_among_workers(rt, alloc, &engine, client, reader, writer, workers);
+    let ended = run_among_workers(rt, alloc, format, &engine, client, reader, writer, workers);
     let outcome = ended.outcome;
     engine.give_up(rt);
     outcome
@@ -105,6 +118,7 @@ struct RunEnd<'r, 'w, R, W> {
 fn run_among_workers<'r, 'w, J: Naming + Send + Sync, R: Source, W: Sink, T: Threads + Wait + Sync>(
     rt: &T,
     alloc: Global,
+    format: Format,
     engine: &Engine<J>,
     client: Client<J>,
     reader: &'r mut R,
@@ -114,10 +128,10 @@ fn run_among_workers<'r, 'w, J: Naming + Send + Sync, R: Source, W: Sink, T: Thr
     requires { workers ≤ engine.now.workers }
     ensures reader { result.reader.ghost_name ≡ reader.entry.ghost_name }
     ensures writer { result.writer.ghost_name ≡ writer.entry.ghost_name }
-    ensures ok { OnOk result.outcome (AllAnswered false script_bounds (account (R.remaining reader.entry.now) (W.contents writer.entry.now) (R.failed reader.entry.now) (W.failed writer.entry.now))
+    ensures ok { OnOk result.outcome (AllAnswered false format script_bounds (account (R.remaining reader.entry.now) (W.contents writer.entry.now) (R.failed reader.entry.now) (W.failed writer.entry.now))
         (account (R.remaining result.reader.now) (W.contents result.writer.now) (R.failed result.reader.now) (W.failed result.writer.now))) }
     ensures err { IfErr result.outcome (λ fault. ((fault ≡ ScriptFault.Gone) × (result.reader.now ≡ reader.entry.now) × (result.writer.now ≡ writer.entry.now))
-        ⊎ Stopped false script_bounds (account (R.remaining reader.entry.now) (W.contents writer.entry.now) (R.failed reader.entry.now) (W.failed writer.entry.now))
+        ⊎ Stopped false format script_bounds (account (R.remaining reader.entry.now) (W.contents writer.entry.now) (R.failed reader.entry.now) (W.failed writer.entry.now))
         (account (R.remaining result.reader.now) (W.contents result.writer.now) (R.failed result.reader.now) (W.failed result.writer.now)) fault) }
     ensures passed_on { OnOk result.outcome (W.passed_on result.writer.now ≡ true) }
 {
@@ -128,10 +142,10 @@ fn run_among_workers<'r, 'w, J: Naming + Send + Sync, R: Source, W: Sink, T: Thr
             requires { workers ≤ engine.now.workers }
             ensures reader { result.reader.ghost_name ≡ reader.entry.ghost_name }
             ensures writer { result.writer.ghost_name ≡ writer.entry.ghost_name }
-            ensures ok { OnOk result.outcome (AllAnswered false script_bounds (account (R.remaining reader.entry.now) (W.contents writer.entry.now) (R.failed reader.entry.now) (W.failed writer.entry.now))
+            ensures ok { OnOk result.outcome (AllAnswered false format script_bounds (account (R.remaining reader.entry.now) (W.contents writer.entry.now) (R.failed reader.entry.now) (W.failed writer.entry.now))
                 (account (R.remaining result.reader.now) (W.contents result.writer.now) (R.failed result.reader.now) (W.failed result.writer.now))) }
             ensures err { IfErr result.outcome (λ fault. ((fault ≡ ScriptFault.Gone) × (result.reader.now ≡ reader.entry.now) × (result.writer.now ≡ writer.entry.now))
-                ⊎ Stopped false script_bounds (account (R.remaining reader.entry.now) (W.contents writer.entry.now) (R.failed reader.entry.now) (W.failed writer.entry.now))
+                ⊎ Stopped false format script_bounds (account (R.remaining reader.entry.now) (W.contents writer.entry.now) (R.failed reader.entry.now) (W.failed writer.entry.now))
                 (account (R.remaining result.reader.now) (W.contents result.writer.now) (R.failed result.reader.now) (W.failed result.writer.now)) fault) }
             ensures passed_on { OnOk result.outcome (W.passed_on result.writer.now ≡ true) }
         {
@@ -143,7 +157,7 @@ fn run_among_workers<'r, 'w, J: Naming + Send + Sync, R: Source, W: Sink, T: Thr
                     outcome: Err(ScriptFault::Gone),
                 };
             }
-            let outcome = answer_by(rt, alloc, engine, client, reader, writer);
+            let outcome = answer_by(rt, alloc, format, engine, client, reader, writer);
             close(rt, engine);
             RunEnd {
                 reader,
@@ -158,17 +172,18 @@ fn run_among_workers<'r, 'w, J: Naming + Send + Sync, R: Source, W: Sink, T: Thr
 fn answer_by<J: Naming, R: Source, W: Sink, T: Wait>(
     rt: &T,
     alloc: Global,
+    format: Format,
     engine: &Engine<J>,
     client: Client<J>,
     reader: &mut R,
     writer: &mut W,
 ) -> Result<(), ScriptFault>
-    ensures ok { OnOk result (AllAnswered false script_bounds (account (R.remaining reader.old) (W.contents writer.old) (R.failed reader.old) (W.failed writer.old))
+    ensures ok { OnOk result (AllAnswered false format script_bounds (account (R.remaining reader.old) (W.contents writer.old) (R.failed reader.old) (W.failed writer.old))
         (account (R.remaining reader.new) (W.contents writer.new) (R.failed reader.new) (W.failed writer.new))) }
-    ensures err { IfErr result (Stopped false script_bounds (account (R.remaining reader.old) (W.contents writer.old) (R.failed reader.old) (W.failed writer.old))
+    ensures err { IfErr result (Stopped false format script_bounds (account (R.remaining reader.old) (W.contents writer.old) (R.failed reader.old) (W.failed writer.old))
         (account (R.remaining reader.new) (W.contents writer.new) (R.failed reader.new) (W.failed writer.new))) }
     ensures passed_on { OnOk result (W.passed_on writer.new ≡ true) }
 {
     let mut answerer = EngineAnswerer::new(rt, engine, client);
-    answer_script(alloc, &mut answerer, reader, writer, SCRIPT_BOUNDS)
+    answer_script(alloc, format, &mut answerer, reader, writer, SCRIPT_BOUNDS)
 }

@@ -1,10 +1,11 @@
 //! What the words of a command line ask for.
-ghost use Rattle.std.specs.Prelude.{◌≤◌, IfSome};
+ghost use Rattle.std.specs.Prelude.{◌≡◌, ◌≤◌, Some, None, IfSome};
 
-use super::commands::{explain_error, parse, run_error};
+use super::commands::{compact_error, explain_error, parse, run_error};
 use clap::error::ErrorKind;
 use clap::{ArgMatches, Error};
 use pgp_ids::{PgId, PoolId};
+use pgp_text::Format;
 use std::alloc::Global;
 
 /// The greatest number of shards or workers.
@@ -24,16 +25,21 @@ the script comes from standard input: pgpeer explain 1.a < FILE";
 /// Why the number of `--epoch-offset` is refused.
 const WRONG_OFFSET: &str = "--epoch-offset takes a number from 0 to 4294967295";
 
+/// Why the number of `--format` is refused.
+const WRONG_FORMAT: &str = "--format takes 2 or 3";
+
 /// Why words are refused that ask for something else than a run.
 const NO_RUN: &str = "run is to be the first word";
 
-/// How many shards and workers a run has.
+/// How many shards and workers a run has, and which lines it reads.
 #[derive(Clone, Copy, Debug)]
 pub struct RunOptions {
     /// 1 to 64. Without workers it has no effect.
     pub shards: u8,
     /// 0 to 64; 0 answers on one thread.
     pub workers: u8,
+    /// Up to which version lines are read.
+    pub format: Format,
     ghost some: { 1 ≤ shards },
     ghost few_shards: { shards ≤ 64 },
     ghost few_workers: { workers ≤ 64 },
@@ -48,6 +54,15 @@ pub struct ExplainOptions {
     pub json: bool,
     /// What is added to each epoch in the explanation, except to 0.
     pub epoch_offset: u32,
+    /// Up to which version lines are read.
+    pub format: Format,
+}
+
+/// How a script is to be compacted.
+#[derive(Clone, Copy, Debug)]
+pub struct CompactOptions {
+    /// Up to which version lines are read.
+    pub format: Format,
 }
 
 /// What the words of a command line ask for.
@@ -58,7 +73,7 @@ pub enum Request {
     /// To explain what a script says of its groups.
     Explain(ExplainOptions),
     /// To write the lines of a script that remain.
-    Compact,
+    Compact(CompactOptions),
 }
 
 /// Reads the words of a command line that asks for a run. The first word is the program's name.
@@ -68,7 +83,7 @@ pub enum Request {
 pub fn options(alloc: Global, words: &[String]) -> Result<RunOptions, Error> {
     match read_request(alloc, words)? {
         Request::Run(options) => Ok(options),
-        Request::Explain(_) | Request::Compact => {
+        Request::Explain(_) | Request::Compact(_) => {
             Err(run_error(alloc, ErrorKind::InvalidSubcommand, NO_RUN)?)
         }
     }
@@ -82,7 +97,7 @@ pub fn read_request(alloc: Global, words: &[String]) -> Result<Request, Error> {
     let matches = parse(alloc, words)?;
     match matches.subcommand() {
         Some(("explain", explain)) => Ok(Request::Explain(explain_options(alloc, explain)?)),
-        Some(("compact", _)) => Ok(Request::Compact),
+        Some(("compact", compact)) => Ok(Request::Compact(compact_options(alloc, compact)?)),
         Some((_, run)) => Ok(Request::Run(run_options(alloc, run)?)),
         None => Err(run_error(alloc, ErrorKind::MissingSubcommand, NO_RUN)?),
     }
@@ -92,8 +107,15 @@ pub fn read_request(alloc: Global, words: &[String]) -> Result<Request, Error> {
 fn run_options(alloc: Global, run: &ArgMatches) -> Result<RunOptions, Error> {
     let shards = count(run.get_str("shards"), 1);
     let workers = count(run.get_str("workers"), 0);
+    let Some(format) = format(run.get_str("format")) else {
+        return Err(run_error(alloc, ErrorKind::ValueValidation, WRONG_FORMAT)?);
+    };
     match (shards, workers) {
-        (Some(shards), Some(workers)) => Ok(RunOptions { shards, workers }),
+        (Some(shards), Some(workers)) => Ok(RunOptions {
+            shards,
+            workers,
+            format,
+        }),
         _ => Err(run_error(alloc, ErrorKind::ValueValidation, WRONG_COUNT)?),
     }
 }
@@ -114,6 +136,28 @@ fn count(text: Option<&str>, least: u8) -> Option<u8>
     }
 }
 
+/// The version that `--format` names, or 2.
+fn format(text: Option<&str>) -> Option<Format>
+    ensures { text ≡ None → result ≡ Some Format.Two }
+{
+    let Some(text) = text else {
+        return Some(Format::Two);
+    };
+    match text.parse::<u8>().ok()? {
+        2 => Some(Format::Two),
+        3 => Some(Format::Three),
+        _ => None,
+    }
+}
+
+/// What the words after `compact` ask for.
+fn compact_options(alloc: Global, compact: &ArgMatches) -> Result<CompactOptions, Error> {
+    match format(compact.get_str("format")) {
+        Some(format) => Ok(CompactOptions { format }),
+        None => Err(compact_error(alloc, ErrorKind::ValueValidation, WRONG_FORMAT)?),
+    }
+}
+
 /// What the words after `explain` ask for.
 fn explain_options(alloc: Global, explain: &ArgMatches) -> Result<ExplainOptions, Error> {
     let Some(epoch_offset) = epoch_offset(explain.get_str("epoch-offset")) else {
@@ -122,10 +166,14 @@ fn explain_options(alloc: Global, explain: &ArgMatches) -> Result<ExplainOptions
     let Some(pg) = group(explain.get_str("pg")) else {
         return Err(explain_error(alloc, ErrorKind::ValueValidation, WRONG_GROUP)?);
     };
+    let Some(format) = format(explain.get_str("format")) else {
+        return Err(explain_error(alloc, ErrorKind::ValueValidation, WRONG_FORMAT)?);
+    };
     Ok(ExplainOptions {
         pg,
         json: explain.get_flag("json"),
         epoch_offset,
+        format,
     })
 }
 

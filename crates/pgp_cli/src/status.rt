@@ -7,7 +7,7 @@ ghost use Rattle.pgp_core.specs.Account.{account};
 use super::ending::Ending;
 use super::engine_run::run_engine;
 use super::fault::Fault;
-use super::request::{ExplainOptions, Request, RunOptions, read_request};
+use super::request::{CompactOptions, ExplainOptions, Request, RunOptions, read_request};
 use super::tell::{help_or_usage, report_fault, report_left_out};
 use pgp_compact_script::{CompactFault, compact_script};
 use pgp_core::{ScriptFault, Sink, Source, run_script};
@@ -38,7 +38,7 @@ pub fn status_of<R: Source, W: Sink, E: Write, T: Threads + Wait + Sync>(
     match read_request(alloc, words) {
         Ok(Request::Run(options)) => run(rt, alloc, options, reader, writer, errors),
         Ok(Request::Explain(options)) => explain_script(alloc, &options, reader, writer, errors),
-        Ok(Request::Compact) => compact(alloc, reader, writer, errors),
+        Ok(Request::Compact(options)) => compact(alloc, options, reader, writer, errors),
         Err(error) => help_or_usage(alloc, &error, words, writer, errors),
     }
 }
@@ -57,13 +57,18 @@ fn run<R: Source, W: Sink, E: Write, T: Threads + Wait + Sync>(
         (account (R.remaining reader.new) (W.contents writer.new) (R.failed reader.new) (W.failed writer.new)) }
     ensures passed_on { result ≡ Ending.Done → W.passed_on writer.new ≡ true }
 {
-    let RunOptions { shards, workers } = options;
+    let RunOptions {
+        shards,
+        workers,
+        format,
+    } = options;
     let outcome = if workers == 0 {
-        run_script(alloc, reader, writer)
+        run_script(alloc, format, reader, writer)
     } else {
         run_engine(
             rt,
             alloc,
+            format,
             reader,
             writer,
             usize::from(shards),
@@ -100,6 +105,7 @@ fn explain_script<R: Source, W: Sink, E: Write>(
 {
     let outcome = explain(
         alloc,
+        options.format,
         reader,
         writer,
         errors,
@@ -116,6 +122,7 @@ fn explain_script<R: Source, W: Sink, E: Write>(
 /// Writes the lines of the script that remain, and reports how many entries were left out.
 fn compact<R: Source, W: Sink, E: Write>(
     alloc: Global,
+    options: CompactOptions,
     reader: &mut R,
     writer: &mut W,
     errors: &mut E,
@@ -125,7 +132,7 @@ fn compact<R: Source, W: Sink, E: Write>(
         (account (R.remaining reader.new) (W.contents writer.new) (R.failed reader.new) (W.failed writer.new)) }
     ensures passed_on { result ≡ Ending.Done → W.passed_on writer.new ≡ true }
 {
-    match compact_script(alloc, reader, writer) {
+    match compact_script(alloc, options.format, reader, writer) {
         Ok(counts) => {
             report_left_out(&counts, errors);
             Ending::Done

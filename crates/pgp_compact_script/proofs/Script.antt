@@ -2,6 +2,7 @@
 use Rattle.std.proofs.Common.{◌≡◌, ℕ, List, [], true, length, refl, sym, ap, ◌∙◌}
 use Rattle.std.proofs.lemmas.List.{length-map}
 use Rattle.pgp_log.specs.Log.{is_legal}
+use Rattle.pgp_text.specs.Commands.{Format}
 use Rattle.pgp_core.specs.Added.{EntryLine, entries_of, entry_lines, log_of_lines}
 use Rattle.pgp_core.specs.Lines.{lines_of}
 use Rattle.pgp_core.proofs.AddedLemmas.{lines-legal}
@@ -13,36 +14,36 @@ use Rattle.pgp_compact_script.proofs.EntryLines.{AreRead, bare-one, entries-read
 use Rattle.pgp_compact_script.proofs.Lines.{lines-one, lines-written}
 use Rattle.pgp_compact_script.proofs.Needed.{needed-all, needed-map}
 
-abbrev pub made_of : List ℕ → List EntryLine
-made_of script = entry_lines [] (lines_of script)
+abbrev pub made_of : Format → List ℕ → List EntryLine
+made_of format script = entry_lines format [] (lines_of script)
 
 pub remaining-entries : (lines : List EntryLine) → entries_of (remaining lines) ≡ compacted (entries_of lines)
 remaining-entries lines = needed-map (λ (it : EntryLine). it.entry) (is_needed (entries_of lines)) lines
 
-remaining-read : (script : List ℕ) → AreRead (remaining (made_of script))
-remaining-read script =
-    let lines = made_of script in needed-read (λ later it. is_needed (entries_of lines) (entries_of later) it.entry) lines (entries-read [] (lines_of script) (lines-one script))
+remaining-read : (format : Format) (script : List ℕ) → AreRead format (remaining (made_of format script))
+remaining-read format script =
+    let lines = made_of format script in needed-read format (λ later it. is_needed (entries_of lines) (entries_of later) it.entry) lines (entries-read format [] (lines_of script) (lines-one script))
 
-pub remain-lines : (script : List ℕ) → lines_of (compacted_text script) ≡ remaining_lines script
-remain-lines script = lines-written (remaining_lines script) (bare-one (remaining (made_of script)) (remaining-read script))
+pub remain-lines : (format : Format) (script : List ℕ) → lines_of (compacted_text format script) ≡ remaining_lines format script
+remain-lines format script = lines-written (remaining_lines format script) (bare-one format (remaining (made_of format script)) (remaining-read format script))
 
-remaining-again : (script : List ℕ) → entry_lines [] (remaining_lines script) ≡ remaining (made_of script)
-remaining-again script =
-    let lines = made_of script in
-    let legal : is_legal (entries_of (remaining lines)) ≡ true = ap is_legal (remaining-entries lines) ∙ (compacted-legal (entries_of lines) (lines-legal [] (lines_of script) refl)).0 in
-    read-again [] (remaining lines) (remaining-read script) legal
+remaining-again : (format : Format) (script : List ℕ) → entry_lines format [] (remaining_lines format script) ≡ remaining (made_of format script)
+remaining-again format script =
+    let lines = made_of format script in
+    let legal : is_legal (entries_of (remaining lines)) ≡ true = ap is_legal (remaining-entries lines) ∙ (compacted-legal (entries_of lines) (lines-legal format [] (lines_of script) refl)).0 in
+    read-again format [] (remaining lines) (remaining-read format script) legal
 
-pub remain-made : (script : List ℕ) → made_of (compacted_text script) ≡ remaining (made_of script)
-remain-made script = ap (entry_lines []) (remain-lines script) ∙ remaining-again script
+pub remain-made : (format : Format) (script : List ℕ) → made_of format (compacted_text format script) ≡ remaining (made_of format script)
+remain-made format script = ap (entry_lines format []) (remain-lines format script) ∙ remaining-again format script
 
-pub remain-log : (script : List ℕ) → log_of_lines (lines_of (compacted_text script)) ≡ compacted (log_of_lines (lines_of script))
-remain-log script = ap entries_of (remain-made script) ∙ remaining-entries (made_of script)
+pub remain-log : (format : Format) (script : List ℕ) → log_of_lines format (lines_of (compacted_text format script)) ≡ compacted (log_of_lines format (lines_of script))
+remain-log format script = ap entries_of (remain-made format script) ∙ remaining-entries (made_of format script)
 
-pub remain-each : (script : List ℕ) → length (remaining_lines script) ≡ length (log_of_lines (remaining_lines script))
-remain-each script =
-    length-map (remaining (made_of script)) (λ (it : EntryLine). it.line)
-    ∙ sym (length-map (remaining (made_of script)) (λ (it : EntryLine). it.entry))
-    ∙ sym (ap (λ (l : List EntryLine). length (entries_of l)) (remaining-again script))
+pub remain-each : (format : Format) (script : List ℕ) → length (remaining_lines format script) ≡ length (log_of_lines format (remaining_lines format script))
+remain-each format script =
+    length-map (remaining (made_of format script)) (λ (it : EntryLine). it.line)
+    ∙ sym (length-map (remaining (made_of format script)) (λ (it : EntryLine). it.entry))
+    ∙ sym (ap (λ (l : List EntryLine). length (entries_of l)) (remaining-again format script))
 
 -- compacted once more
 remaining-twice : (lines : List EntryLine) → remaining (remaining lines) ≡ remaining lines
@@ -52,5 +53,5 @@ remaining-twice lines =
     ap length (remaining-entries kept ∙ ap compacted (remaining-entries lines) ∙ compacted-twice (entries_of lines) ∙ sym (remaining-entries lines)) in
     needed-all (λ later it. is_needed (entries_of kept) (entries_of later) it.entry) kept (sym (length-map (remaining kept) (λ (it : EntryLine). it.entry)) ∙ counts ∙ length-map kept (λ (it : EntryLine). it.entry))
 
-pub remain-twice : (script : List ℕ) → compacted_text (compacted_text script) ≡ compacted_text script
-remain-twice script = ap (λ (l : List EntryLine). text_of_lines (bare l)) (ap remaining (remain-made script) ∙ remaining-twice (made_of script))
+pub remain-twice : (format : Format) (script : List ℕ) → compacted_text format (compacted_text format script) ≡ compacted_text format script
+remain-twice format script = ap (λ (l : List EntryLine). text_of_lines (bare l)) (ap remaining (remain-made format script) ∙ remaining-twice (made_of format script))

@@ -1,5 +1,6 @@
 -- What is read of a script so far, while its lines are taken into a log one by one.
 use Rattle.std.specs.Prelude.{◌≡◌, ℕ, List, [], ◌∷◌, ◌++◌, map}
+use Rattle.pgp_text.specs.Commands.{Format}
 use Rattle.pgp_core.specs.Added.{EntryLine, entries_of, entry_lines}
 use Rattle.pgp_core.specs.declared.outcome.LineOutcome.{LineOutcome}
 use Rattle.pgp_core.specs.declared.outcome.LineOutcome.TheVariants.{Blank, Taken, Asked, Refused}
@@ -18,8 +19,8 @@ kept_of Asked line = []
 kept_of (Refused why) line = []
 
 -- The lines of the script before the rest were taken: the log has their entries, and these are the lines that added them.
-pub record IsReadTo (lines rest : List (List ℕ)) (read : ScriptEntries) : Type 0 where
+pub record IsReadTo (format : Format) (lines rest : List (List ℕ)) (read : ScriptEntries) : Type 0 where
   pub done : List EntryLine
   pub log_is : read.log ≡ entries_of done
   pub lines_are : texts read ≡ bare done
-  pub goes_on : done ++ entry_lines read.log rest ≡ entry_lines [] lines
+  pub goes_on : done ++ entry_lines format read.log rest ≡ entry_lines format [] lines

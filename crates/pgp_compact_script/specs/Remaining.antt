@@ -1,5 +1,6 @@
 -- The lines of a script that remain where its log is compacted. This project's own choice.
 use Rattle.std.specs.Prelude.{ℕ, List, [], ◌∷◌, ◌++◌, map, flat_map}
+use Rattle.pgp_text.specs.Commands.{Format}
 use Rattle.pgp_core.specs.Added.{EntryLine, entries_of, entry_lines}
 use Rattle.pgp_core.specs.Lines.{lines_of}
 use Rattle.pgp_compact.specs.Compacted.{is_needed}
@@ -17,10 +18,10 @@ bare lines = map (λ it. it.line) lines
 abbrev pub text_of_lines : List (List ℕ) → List ℕ
 text_of_lines lines = flat_map (λ line. line ++ 10 ∷ []) lines
 
--- the lines that remain of a script
-abbrev pub remaining_lines : List ℕ → List (List ℕ)
-remaining_lines script = bare (remaining (entry_lines [] (lines_of script)))
+-- the lines that remain of a script, where lines up to this version are read
+abbrev pub remaining_lines : Format → List ℕ → List (List ℕ)
+remaining_lines format script = bare (remaining (entry_lines format [] (lines_of script)))
 
 -- what is written of a script
-abbrev pub compacted_text : List ℕ → List ℕ
-compacted_text script = text_of_lines (remaining_lines script)
+abbrev pub compacted_text : Format → List ℕ → List ℕ
+compacted_text format script = text_of_lines (remaining_lines format script)

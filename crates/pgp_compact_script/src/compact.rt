@@ -11,6 +11,7 @@ use super::fault::CompactFault;
 use super::text::text_of;
 use pgp_compact::needed;
 use pgp_core::{SCRIPT_BOUNDS, Sink, Source, WholeFault, pass_on, read_whole};
+use pgp_text::Format;
 use std::alloc::{AllocError, Global};
 
 /// What became of the lines of a script.
@@ -24,7 +25,7 @@ pub struct Compaction {
     pub refused: u64,
 }
 
-/// Writes the lines of the script whose entries remain of its log where that is compacted: byte for byte, in
+/// Writes the lines of the script, up to this version, whose entries remain of its log where that is compacted: byte for byte, in
 /// their order, each with a line feed.
 ///
 /// Nothing is written before the script is read to its end. At a fault nothing is written either, except at
@@ -32,14 +33,15 @@ pub struct Compaction {
 /// Where there is no memory for a line, no line is written, since its entry would be lost.
 pub fn compact_script<R: Source, W: Sink>(
     alloc: Global,
+    format: Format,
     reader: &mut R,
     writer: &mut W,
 ) -> Result<Compaction, CompactFault>
-    ensures ok { IfOk result (λ counts. IsCompacted counts (R.remaining reader.old) (R.remaining reader.new)
+    ensures ok { IfOk result (λ counts. IsCompacted format counts (R.remaining reader.old) (R.remaining reader.new)
         (W.contents writer.old) (W.contents writer.new)) }
     ensures read { result ≡ Err (CompactFault.Script WholeFault.Read) → R.failed reader.new ≡ true }
     ensures large { result ≡ Err (CompactFault.Script WholeFault.TooLarge) → GivesTooMuch script_bounds (R.remaining reader.old) (R.remaining reader.new) }
-    ensures write { result ≡ Err CompactFault.Write → IsCutShort (R.remaining reader.old) (R.remaining reader.new)
+    ensures write { result ≡ Err CompactFault.Write → IsCutShort format (R.remaining reader.old) (R.remaining reader.new)
         (W.contents writer.old) (W.contents writer.new) (W.failed writer.new) }
     ensures quiet { OnErr result (result ≢ Err CompactFault.Write → writer.new ≡ writer.old) }
     ensures kept { OnOk result (W.failed writer.new ≡ W.failed writer.old) }
@@ -47,17 +49,21 @@ pub fn compact_script<R: Source, W: Sink>(
     ensures kept_reader { result ≢ Err (CompactFault.Script WholeFault.Read) → R.failed reader.new ≡ R.failed reader.old }
 {
     let script = read_whole(alloc, reader, SCRIPT_BOUNDS)?;
-    let (text, counts) = compacted(alloc, script.as_slice())?;
+    let (text, counts) = compacted(alloc, format, script.as_slice())?;
     pass_on(writer, text.as_slice())?;
     Ok(counts)
 }
 
 /// The lines that remain of a script, each with a line feed, and what became of them.
-fn compacted(alloc: Global, script: &[u8]) -> Result<(Vec<u8>, Compaction), AllocError>
-    ensures text { IfOk result (λ made. made.0.items ≡ compacted_text script.now) }
-    ensures counts { IfOk result (λ made. HasCounts script.now made.1) }
+fn compacted(
+    alloc: Global,
+    format: Format,
+    script: &[u8],
+) -> Result<(Vec<u8>, Compaction), AllocError>
+    ensures text { IfOk result (λ made. made.0.items ≡ compacted_text format script.now) }
+    ensures counts { IfOk result (λ made. HasCounts format script.now made.1) }
 {
-    let read = read_entries(alloc, script)?;
+    let read = read_entries(alloc, format, script)?;
     let needed = needed(alloc, read.log.entries())?;
     let choices = needed.as_slice();
     let text = text_of(alloc, read.lines.as_slice(), choices)?;

@@ -5,7 +5,7 @@ ghost use Rattle.pgp_core.specs.Lines.{lines_of};
 ghost use Rattle.pgp_compact_script.specs.Entries.{IsReadTo, kept_of, texts};
 
 use pgp_core::{LineOutcome, Log, first_line};
-use pgp_text::LineReader;
+use pgp_text::{Format, LineReader};
 use std::alloc::{AllocError, Global};
 
 /// The log that the lines of a script make, and the lines that added its entries.
@@ -18,16 +18,20 @@ pub(crate) struct ScriptEntries<'a> {
     pub(crate) refused: u64,
 }
 
-/// The entries of all lines of the script.
-pub(crate) fn read_entries(alloc: Global, script: &[u8]) -> Result<ScriptEntries<'_>, AllocError>
-    ensures { IfOk result (λ read. IsReadTo (lines_of script.now) [] read) }
+/// The entries of all lines of the script up to this version.
+pub(crate) fn read_entries(
+    alloc: Global,
+    format: Format,
+    script: &[u8],
+) -> Result<ScriptEntries<'_>, AllocError>
+    ensures { IfOk result (λ read. IsReadTo format (lines_of script.now) [] read) }
 {
     let mut read = ScriptEntries {
         log: Log::new(alloc),
         lines: Vec::new(alloc),
         refused: 0,
     };
-    let mut reader = LineReader::new(alloc);
+    let mut reader = LineReader::new(alloc, format);
     let mut rest = script;
     while let Some((line, others)) = first_line(rest) {
         read.take(alloc, &mut reader, line)?;
@@ -44,7 +48,9 @@ impl<'a> ScriptEntries<'a> {
         reader: &mut LineReader,
         line: &'a [u8],
     ) -> Result<(), AllocError>
-        ensures { OnOk result ((lines rest : List (List ℕ)) → IsReadTo lines (line.now ∷ rest) self.old → IsReadTo lines rest self.new) }
+        ensures read { OnOk result ((lines rest : List (List ℕ)) → IsReadTo reader.old.format lines (line.now ∷ rest) self.old
+            → IsReadTo reader.old.format lines rest self.new) }
+        ensures format { reader.new.format ≡ reader.old.format }
     {
         let outcome = self.log.read_line(alloc, reader, line)?;
         self.note(line, &outcome)

@@ -2,6 +2,7 @@
 
 ghost use Rattle.std.specs.Prelude.{◌≡◌, ℕ, List, length};
 ghost use Rattle.pgp_compact.specs.Compacted.{compacted};
+ghost use Rattle.pgp_text.specs.Commands.{Format};
 ghost use Rattle.pgp_core.specs.Added.{log_of_lines};
 ghost use Rattle.pgp_core.specs.Lines.{lines_of};
 ghost use Rattle.pgp_compact_script.specs.Remaining.{compacted_text, remaining_lines};
@@ -11,12 +12,14 @@ ghost use Rattle.pgp_compact_script.specs.Remaining.{compacted_text, remaining_l
 /// (`pgp_compact::laws::every_answer_is_the_same`). It takes the same entries, except that it may have room where the log of the
 /// script is full (`what_follows_is_taken_alike`).
 pub fn what_remains_makes_the_compacted_log()
-    ensures lines { (script : List ℕ) → lines_of (compacted_text script) ≡ remaining_lines script }
-    ensures log { (script : List ℕ) → log_of_lines (lines_of (compacted_text script)) ≡ compacted (log_of_lines (lines_of script)) }
-    ensures each { (script : List ℕ) → length (remaining_lines script) ≡ length (log_of_lines (remaining_lines script)) }
+    ensures lines { (format : Format) (script : List ℕ) → lines_of (compacted_text format script) ≡ remaining_lines format script }
+    ensures log { (format : Format) (script : List ℕ)
+        → log_of_lines format (lines_of (compacted_text format script)) ≡ compacted (log_of_lines format (lines_of script)) }
+    ensures each { (format : Format) (script : List ℕ)
+        → length (remaining_lines format script) ≡ length (log_of_lines format (remaining_lines format script)) }
 {}
 
 /// What is written stays as it is when it is compacted once more.
 pub fn compacting_a_script_twice_is_compacting_it_once()
-    ensures { (script : List ℕ) → compacted_text (compacted_text script) ≡ compacted_text script }
+    ensures { (format : Format) (script : List ℕ) → compacted_text format (compacted_text format script) ≡ compacted_text format script }
 {}

@@ -5,7 +5,7 @@ use Rattle.pgp_ids.specs.declared.entry.Entry.{Entry}
 use Rattle.pgp_ids.specs.declared.refusal.Refusal.{Refusal}
 use Rattle.pgp_text.specs.Command.{command_of}
 use Rattle.pgp_text.specs.LineFault.{LineFault}
-use Rattle.pgp_text.specs.Commands.{Command, Submit, Ask, Locate, Trace}
+use Rattle.pgp_text.specs.Commands.{Command, Format, Submit, Ask, Locate, Trace}
 use Rattle.pgp_log.specs.Fits.{fits}
 use Rattle.pgp_log.specs.Log.{is_legal}
 use Rattle.pgp_log.proofs.LogLemmas.{legal-snoc}
@@ -20,10 +20,10 @@ use Rattle.pgp_core.specs.declared.want.Want.{Want}
 -- ---- one line
 
 -- the line was read as the entry, which fits
-pub record IsAdding (log : List Entry) (line : List ℕ) (entry : Entry) : Type 0 where
+pub record IsAdding (format : Format) (log : List Entry) (line : List ℕ) (entry : Entry) : Type 0 where
   pub some : is_blank line ≡ false
   pub short : nat_lt longest_line (length line) ≡ false
-  pub reads : command_of line ≡ Ok (Submit entry)
+  pub reads : command_of format line ≡ Ok (Submit entry)
   pub fit : fits log entry ≡ None
 
 taken-fits : (log : List Entry) (entry : Entry) (why : Option Refusal) (taken : Entry) → fits log entry ≡ why
@@ -42,13 +42,13 @@ taken-reads log (Ok (Locate pool name)) taken is = absurd cc
 taken-reads log (Ok (Trace code epochs)) taken is = absurd cc
 taken-reads log (Err fault) taken is = absurd cc
 
-pub adding : (log : List Entry) (line : List ℕ) (entry : Entry) → added_by log line ≡ Some entry → IsAdding log line entry
-adding log line entry is = elim (cases_Bool (is_blank line)) [
+pub adding : (format : Format) (log : List Entry) (line : List ℕ) (entry : Entry) → added_by format log line ≡ Some entry → IsAdding format log line entry
+adding format log line entry is = elim (cases_Bool (is_blank line)) [
   | inl blank ↦ let none : None ≡ Some entry = rw blank at is in absurd cc
   | inr some ↦ elim (cases_Bool (nat_lt longest_line (length line))) [
     | inl long ↦ let none : None ≡ Some entry = rw (some, long) at is in absurd cc
     | inr short ↦
-        let facts = taken-reads log (command_of line) entry (rw (some, short) at is) in
+        let facts = taken-reads log (command_of format line) entry (rw (some, short) at is) in
         record { some = some; short = short; reads = facts.0; fit = facts.1 }
   ]
 ]
@@ -56,23 +56,23 @@ adding log line entry is = elim (cases_Bool (is_blank line)) [
 -- ---- the lines of a script
 
 -- after one line: what it adds, and what the others add to the log then
-pub lines-cases : (P : List EntryLine → Type 0) (log : List Entry) (line : List ℕ) (lines : List (List ℕ)) → (added_by log line ≡ None → P (entry_lines log lines))
-    → ((entry : Entry) → added_by log line ≡ Some entry → P (entry_line line entry ∷ entry_lines (log ++ entry ∷ []) lines)) → P (entry_lines log (line ∷ lines))
-lines-cases P log line lines none some = go (added_by log line) refl where
-  go : (added : Option Entry) → added_by log line ≡ added → P (entry_lines log (line ∷ lines))
+pub lines-cases : (format : Format) (P : List EntryLine → Type 0) (log : List Entry) (line : List ℕ) (lines : List (List ℕ)) → (added_by format log line ≡ None → P (entry_lines format log lines))
+    → ((entry : Entry) → added_by format log line ≡ Some entry → P (entry_line line entry ∷ entry_lines format (log ++ entry ∷ []) lines)) → P (entry_lines format log (line ∷ lines))
+lines-cases format P log line lines none some = go (added_by format log line) refl where
+  go : (added : Option Entry) → added_by format log line ≡ added → P (entry_lines format log (line ∷ lines))
   go None is = rw is (none is)
   go (Some entry) is = rw is (some entry is)
 
 -- the log that they make is legal
-pub lines-legal : (log : List Entry) (lines : List (List ℕ)) → is_legal log ≡ true → is_legal (log ++ entries_of (entry_lines log lines)) ≡ true
-lines-legal log [] legal = ap is_legal (append-nil log) ∙ legal
-lines-legal log (line ∷ lines) legal =
+pub lines-legal : (format : Format) (log : List Entry) (lines : List (List ℕ)) → is_legal log ≡ true → is_legal (log ++ entries_of (entry_lines format log lines)) ≡ true
+lines-legal format log [] legal = ap is_legal (append-nil log) ∙ legal
+lines-legal format log (line ∷ lines) legal =
     let P : List EntryLine → Type 0 = λ l. is_legal (log ++ entries_of l) ≡ true in
-    lines-cases P log line lines (λ none. lines-legal log lines legal)
+    lines-cases format P log line lines (λ none. lines-legal format log lines legal)
     (λ entry adds.
     let grown = log ++ entry ∷ [] in
-    ap is_legal (sym (append_assoc log (entry ∷ []) (entries_of (entry_lines grown lines))))
-    ∙ lines-legal grown lines (legal-snoc log entry legal (adding log line entry adds).fit))
+    ap is_legal (sym (append_assoc log (entry ∷ []) (entries_of (entry_lines format grown lines))))
+    ∙ lines-legal format grown lines (legal-snoc log entry legal (adding format log line entry adds).fit))
 
 taken-past : (log : List Entry) (entry : Entry) (why : Option Refusal) → fits log entry ≡ why → with_added log (taken_from log (Submit entry)) ≡ log_with log entry why
 taken-past log entry None fit = rw fit refl
@@ -86,12 +86,12 @@ read-past log (Ok (Trace code epochs)) = refl
 read-past log (Err fault) = refl
 
 -- a line that isn't out of memory adds its entry
-added-past : (log : List Entry) (line : List ℕ) → log_past log None line ≡ with_added log (added_by log line)
-added-past log line = elim (cases_Bool (is_blank line)) [
+added-past : (format : Format) (log : List Entry) (line : List ℕ) → log_past format log None line ≡ with_added log (added_by format log line)
+added-past format log line = elim (cases_Bool (is_blank line)) [
   | inl blank ↦ rw blank refl
   | inr some ↦ elim (cases_Bool (nat_lt longest_line (length line))) [
     | inl long ↦ rw (some, long) refl
-    | inr short ↦ rw (some, short) (sym (read-past log (command_of line)))
+    | inr short ↦ rw (some, short) (sym (read-past log (command_of format line)))
   ]
 ]
 
@@ -99,34 +99,34 @@ abbrev no_wants : List (List ℕ) → List (Option Want)
 no_wants lines = map (λ line. None) lines
 
 -- lines of which none is out of memory make this log
-pub lines-made : (log : List Entry) (lines : List (List ℕ)) → logs log (no_wants lines) lines ≡ log ++ entries_of (entry_lines log lines)
-lines-made log [] = sym (append-nil log)
-lines-made log (line ∷ lines) =
-    let P : List EntryLine → Type 0 = λ l. logs (log_past log None line) (no_wants lines) lines ≡ log ++ entries_of l in
-    let after : (added : Option Entry) → added_by log line ≡ added → logs (log_past log None line) (no_wants lines) lines ≡ logs (with_added log added) (no_wants lines) lines =
-    λ added is. ap (λ l. logs l (no_wants lines) lines) (added-past log line ∙ ap (with_added log) is) in
-    lines-cases P log line lines (λ none. after None none ∙ lines-made log lines)
-    (λ entry adds. after (Some entry) adds ∙ lines-made (log ++ entry ∷ []) lines ∙ append_assoc log (entry ∷ []) (entries_of (entry_lines (log ++ entry ∷ []) lines)))
+pub lines-made : (format : Format) (log : List Entry) (lines : List (List ℕ)) → logs format log (no_wants lines) lines ≡ log ++ entries_of (entry_lines format log lines)
+lines-made format log [] = sym (append-nil log)
+lines-made format log (line ∷ lines) =
+    let P : List EntryLine → Type 0 = λ l. logs format (log_past format log None line) (no_wants lines) lines ≡ log ++ entries_of l in
+    let after : (added : Option Entry) → added_by format log line ≡ added → logs format (log_past format log None line) (no_wants lines) lines ≡ logs format (with_added log added) (no_wants lines) lines =
+    λ added is. ap (λ l. logs format l (no_wants lines) lines) (added-past format log line ∙ ap (with_added log) is) in
+    lines-cases format P log line lines (λ none. after None none ∙ lines-made format log lines)
+    (λ entry adds. after (Some entry) adds ∙ lines-made format (log ++ entry ∷ []) lines ∙ append_assoc log (entry ∷ []) (entries_of (entry_lines format (log ++ entry ∷ []) lines)))
 
 -- ---- whoever answers
 
-past-legal : (log : List Entry) (met : Option Want) (line : List ℕ) → is_legal log ≡ true → is_legal (log_past log met line) ≡ true
-past-legal log (Some want) line legal = legal
-past-legal log None line legal = ap is_legal (added-past log line) ∙ go (added_by log line) refl where
-  go : (added : Option Entry) → added_by log line ≡ added → is_legal (with_added log added) ≡ true
+past-legal : (format : Format) (log : List Entry) (met : Option Want) (line : List ℕ) → is_legal log ≡ true → is_legal (log_past format log met line) ≡ true
+past-legal format log (Some want) line legal = legal
+past-legal format log None line legal = ap is_legal (added-past format log line) ∙ go (added_by format log line) refl where
+  go : (added : Option Entry) → added_by format log line ≡ added → is_legal (with_added log added) ≡ true
   go None is = legal
-  go (Some entry) is = legal-snoc log entry legal (adding log line entry is).fit
+  go (Some entry) is = legal-snoc log entry legal (adding format log line entry is).fit
 
 pub answered-legal : (alone : Bool) (before by : List Entry) → MayAnswerBy alone before by → is_legal before ≡ true → is_legal by ≡ true
 answered-legal true before by may legal = ap is_legal may ∙ legal
 answered-legal false before by may legal = may.1 legal
 
 -- lines that are answered make a legal log of a legal one
-pub written-legal : (alone : Bool) (before after : List Entry) (lines : List (List ℕ)) (text : List ℕ) → AreWrittenFor alone before lines after text
+pub written-legal : (alone : Bool) (format : Format) (before after : List Entry) (lines : List (List ℕ)) (text : List ℕ) → AreWrittenFor alone format before lines after text
     → is_legal before ≡ true → is_legal after ≡ true
-written-legal alone before after [] text written legal = ap is_legal written.0 ∙ legal
-written-legal alone before after (line ∷ lines) text written legal =
+written-legal alone format before after [] text written legal = ap is_legal written.0 ∙ legal
+written-legal alone format before after (line ∷ lines) text written legal =
     let turn = written.0 in
-    let first : IsWrittenFor alone before turn.log line turn.first = written.1.0 in
-    let past : is_legal turn.log ≡ true = ap is_legal first.log_is ∙ past-legal first.by first.met line (answered-legal alone before first.by first.may legal) in
-    written-legal alone turn.log after lines turn.others written.1.1 past
+    let first : IsWrittenFor alone format before turn.log line turn.first = written.1.0 in
+    let past : is_legal turn.log ≡ true = ap is_legal first.log_is ∙ past-legal format first.by first.met line (answered-legal alone before first.by first.may legal) in
+    written-legal alone format turn.log after lines turn.others written.1.1 past

@@ -5,7 +5,7 @@ use Rattle.std.proofs.lemmas.List.{nil_from_length}
 use Rattle.pgp_ids.specs.declared.entry.Entry.{Entry}
 use Rattle.std.specs.Prelude.{Ok}
 use Rattle.pgp_text.specs.Command.{command_of}
-use Rattle.pgp_text.specs.Commands.{Command, Submit, Ask, Locate, Trace}
+use Rattle.pgp_text.specs.Commands.{Command, Format, Submit, Ask, Locate, Trace}
 use Rattle.pgp_core.specs.Wants.{want_of, LacksReply}
 use Rattle.pgp_core.specs.Answer.{line_text}
 use Rattle.pgp_core.specs.Lines.{is_blank}
@@ -18,19 +18,19 @@ use Rattle.pgp_core.specs.declared.answerer.NoReply.{NoReply}
 use Rattle.pgp_core.specs.declared.answerer.NoReply.TheVariants as why
 use Rattle.pgp_core.proofs.WrittenLemmas.{by-itself}
 
-pub puts-blank : (alone : Bool) (log : List Entry) (text line : List ℕ) → is_blank line ≡ true → PutsLine alone log log line text text []
-puts-blank alone log text line is = record {
+pub puts-blank : (alone : Bool) (format : Format) (log : List Entry) (text line : List ℕ) → is_blank line ≡ true → PutsLine alone format log log line text text []
+puts-blank alone format log text line is = record {
   text = [];
   told = record { by = log; may = by-itself alone log; met = None; meets = tt; text_is = rw is refl; log_is = rw is refl };
   whole = refl;
 }
 
-pub puts-text : (alone : Bool) (before after : List Entry) (line old new : List ℕ) → is_blank line ≡ false → PutsText alone before after line old new
-    → length line ≤ longest_line → PutsLine alone before after line old new []
-puts-text alone before after line old new blank puts few =
+pub puts-text : (alone : Bool) (format : Format) (before after : List Entry) (line old new : List ℕ) → is_blank line ≡ false → PutsText alone format before after line old new
+    → length line ≤ longest_line → PutsLine alone format before after line old new []
+puts-text alone format before after line old new blank puts few =
     let short : nat_lt longest_line (length line) ≡ false = grind (arith, nat_tests) in
     record {
-      text = line_text puts.by line ++ 10 ∷ [];
+      text = line_text format puts.by line ++ 10 ∷ [];
       told = record { by = puts.by; may = puts.may; met = None; meets = tt; text_is = rw (blank, short) refl; log_is = rw (blank, short) puts.log };
       whole = append-nil new ∙ puts.text;
     }
@@ -55,17 +55,17 @@ kept-whole buffer P fate there line holds =
     (subst (λ l. length l ≤ longest_line → P l) kept.0 there) kept.1
 
 -- what its command can have no memory for, the line can have none for
-line-meets : (line : List ℕ) (command : Command) → is_blank line ≡ false → length line ≤ longest_line → command_of line ≡ Ok command → MayMeet (Some (want_of command)) line
-line-meets line (Submit entry) some short reads = record { short = short; entry = entry; reads = reads }
-line-meets line (Ask pg) some short reads = (some, short)
-line-meets line (Locate pool name) some short reads = (some, short)
-line-meets line (Trace code epochs) some short reads = (some, short)
+line-meets : (format : Format) (line : List ℕ) (command : Command) → is_blank line ≡ false → length line ≤ longest_line → command_of format line ≡ Ok command → MayMeet format (Some (want_of command)) line
+line-meets format line (Submit entry) some short reads = record { short = short; entry = entry; reads = reads }
+line-meets format line (Ask pg) some short reads = (some, short)
+line-meets format line (Locate pool name) some short reads = (some, short)
+line-meets format line (Trace code epochs) some short reads = (some, short)
 
 -- what a line lacks, from what its command lacks
-pub lacks-of : (alone : Bool) (line : List ℕ) (command : Command) → command_of line ≡ Ok command → (lack : NoReply) → LacksReply alone command lack
-    → is_blank line ≡ false → length line ≤ longest_line → MayLack alone lack line
-lacks-of alone line command reads (why.Memory want) is some short = rw is (line-meets line command some short reads)
-lacks-of alone line command reads why.Gone is some short = record { shared = is; short = short; command = command; reads = reads }
+pub lacks-of : (alone : Bool) (format : Format) (line : List ℕ) (command : Command) → command_of format line ≡ Ok command → (lack : NoReply) → LacksReply alone command lack
+    → is_blank line ≡ false → length line ≤ longest_line → MayLack alone format lack line
+lacks-of alone format line command reads (why.Memory want) is some short = rw is (line-meets format line command some short reads)
+lacks-of alone format line command reads why.Gone is some short = record { shared = is; short = short; command = command; reads = reads }
 
 -- no byte was read
 pub is-empty : (line : List ℕ) → nat_lt 0 (length line) ≡ false → line ≡ []

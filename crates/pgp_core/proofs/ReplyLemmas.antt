@@ -9,7 +9,7 @@ use Rattle.pgp_ids.specs.declared.view.View.{View}
 use Rattle.pgp_ids.specs.declared.refusal.Refusal.{Refusal}
 use Rattle.pgp_group.specs.Touched.{view_at}
 use Rattle.pgp_group.specs.View.{scratch}
-use Rattle.pgp_text.specs.Commands.{Command, Submit, Ask, Locate, Trace}
+use Rattle.pgp_text.specs.Commands.{Command, Format, Submit, Ask, Locate, Trace}
 use Rattle.pgp_text.specs.declared.reply.Reply.{Reply}
 use Rattle.pgp_log.specs.Fits.{fits}
 use Rattle.pgp_log.specs.Log.{epoch_of}
@@ -66,19 +66,19 @@ told-reply log front pg count epoch told same many at is =
 
 -- ---- lines
 
-pub puts-command : (alone : Bool) (before after : List Entry) (line : List ℕ) (command : Command) (old new : List ℕ) → command_of line ≡ Ok command
-    → PutsReply alone before after command old new → PutsText alone before after line old new
-puts-command alone before after line command old new reads puts = record {
+pub puts-command : (alone : Bool) (format : Format) (before after : List Entry) (line : List ℕ) (command : Command) (old new : List ℕ) → command_of format line ≡ Ok command
+    → PutsReply alone before after command old new → PutsText alone format before after line old new
+puts-command alone format before after line command old new reads puts = record {
   by = puts.by;
   may = puts.may;
   text = puts.text ∙ ap (λ c. old ++ (text_of puts.by c ++ 10 ∷ [])) (sym reads);
   log = puts.log ∙ ap (log_of puts.by) (sym reads);
 }
 
-pub puts-fault : (alone : Bool) (log : List Entry) (line : List ℕ) (fault : Option LineFault) (old new : List ℕ) → IfSome fault (λ f. command_of line ≡ Err f)
-    → PutsFault fault old new → PutsText alone log log line old new
-puts-fault alone log line None old new reads puts = absurd puts
-puts-fault alone log line (Some fault) old new reads puts = record {
+pub puts-fault : (alone : Bool) (format : Format) (log : List Entry) (line : List ℕ) (fault : Option LineFault) (old new : List ℕ) → IfSome fault (λ f. command_of format line ≡ Err f)
+    → PutsFault fault old new → PutsText alone format log log line old new
+puts-fault alone format log line None old new reads puts = absurd puts
+puts-fault alone format log line (Some fault) old new reads puts = record {
   by = log;
   may = by-itself alone log;
   text = puts ∙ ap (λ c. old ++ (text_of log c ++ 10 ∷ [])) (sym reads);

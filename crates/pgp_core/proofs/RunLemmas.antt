@@ -7,12 +7,13 @@ use Rattle.std.proofs.Math.Seq.{drop-append_seam, take-append-add}
 use Rattle.std.specs.List.{list_any}
 use Rattle.std.proofs.lemmas.List.{length-append}
 use Rattle.pgp_ids.specs.declared.entry.Entry.{Entry}
+use Rattle.pgp_text.specs.Commands.{Format}
 use Rattle.pgp_core.specs.Lines.{is_line_feed, cut, last_line, lines_of}
 use Rattle.pgp_core.specs.Line.{Holds}
 use Rattle.pgp_core.specs.Input.{HasRead}
 use Rattle.pgp_core.specs.Output.{WrittenPart, FrontWent}
 use Rattle.pgp_core.specs.Script.{IsBeyond, Within, whole_lines}
-use Rattle.pgp_core.specs.WrittenFor.{PutsLine, StartsLeft}
+use Rattle.pgp_core.specs.WrittenFor.{IsWrittenFor, PutsLine, StartsLeft}
 use Rattle.pgp_core.specs.Telling.{AreAnswered, RunStart, IsAfter, IsDone, WentBy, IsStopped, StoppedAtLast, ChunkPart}
 use Rattle.pgp_core.specs.declared.input.Bounds.{Bounds}
 use Rattle.pgp_core.specs.declared.input.Input.{Input}
@@ -72,12 +73,13 @@ all_read start bytes =
 -- ---- lines
 
 -- the text for one line more was put behind what is pending
-pub told-line : (alone : Bool) (start : RunStart) (before after : List Entry) (lines : List (List ℕ)) (line pending put rest : List ℕ) (now : Option (List ℕ))
-    → AreAnswered alone start lines before now pending → PutsLine alone before after line pending put rest
+pub told-line : (alone : Bool) (start : RunStart) (format : Format) (before after : List Entry) (lines : List (List ℕ)) (line pending put rest : List ℕ) (now : Option (List ℕ))
+    → format ≡ start.format → AreAnswered alone start lines before now pending → PutsLine alone format before after line pending put rest
     → AreAnswered alone start (lines ++ line ∷ []) after now (put ++ rest)
-told-line alone start before after lines line pending put rest now so_far puts = record {
+told-line alone start format before after lines line pending put rest now same so_far puts = record {
   out = so_far.out ++ puts.text;
-  told = written-push alone start.log before after lines line so_far.out puts.text so_far.told puts.told;
+  told = written-push alone start.format start.log before after lines line so_far.out puts.text so_far.told
+      (subst (λ f. IsWrittenFor alone f before after line puts.text) same puts.told);
   went = subst (WrittenPart start.written now (so_far.out ++ puts.text)) (sym puts.whole) (WrittenPart-longer start.written now so_far.out pending puts.text so_far.went);
 }
 
@@ -89,7 +91,7 @@ went-on alone start lines log now new pending still so_far more =
 
 -- the answering stops after these lines
 pub stopped : (fault : ScriptFault) (alone : Bool) (start : RunStart) (lines others : List (List ℕ)) (log : List Entry) (now new : Option (List ℕ)) (pending : List ℕ)
-    → AreAnswered alone start lines log now pending → WentBy fault now new pending → (fault ≡ Read → others ≡ []) → (fault ≡ Gone → StartsLeft alone others)
+    → AreAnswered alone start lines log now pending → WentBy fault now new pending → (fault ≡ Read → others ≡ []) → (fault ≡ Gone → StartsLeft alone start.format others)
     → IsStopped alone start fault new (lines ++ others)
 stopped fault alone start lines others log now new pending so_far went all left = record {
   done = lines;
@@ -124,7 +126,7 @@ pub after-piece : (alone : Bool) (start : RunStart) (script : Script) (input : I
     → list_any is_line_feed piece ≡ false → ((bounds : Bounds) (bytes : List ℕ) → HasRead bounds script.input bytes → HasRead bounds input (bytes ++ piece))
     → IsAfter alone start script log now bytes → IsAfter alone start (record script { input = input }) log now (bytes ++ piece)
 after-piece alone start script input log now bytes piece none step after =
-    record { read = step start.bounds bytes after.read; answered = rw (whole-piece bytes piece none) after.answered }
+    record { format = after.format; read = step start.bounds bytes after.read; answered = rw (whole-piece bytes piece none) after.answered }
 
 -- the line that a piece and a line feed end is the next of the lines, where the bounds allow it
 pub line_of_cut : (start : RunStart) (input : Input) (bytes piece more : List ℕ) → list_any is_line_feed piece ≡ false → 0 < input.left.lines
@@ -227,14 +229,14 @@ within_started bounds input bytes started read =
 
 -- the last line was answered
 pub done_started : (alone : Bool) (script : Script) (before after : List Entry) (now new : Option (List ℕ)) (still : List ℕ) → script.input.line.started ≡ true
-    → ((line : List ℕ) → Holds script.input.line line → (start : RunStart) (lines : List (List ℕ)) → AreAnswered alone start lines before now script.output.pending.items
+    → ((line : List ℕ) → Holds script.input.line line → (start : RunStart) (lines : List (List ℕ)) → script.codec.reader.format ≡ start.format → AreAnswered alone start lines before now script.output.pending.items
     → AreAnswered alone start (lines ++ (line ++ []) ∷ []) after new still)
     → (start : RunStart) (bytes : List ℕ) → IsAfter alone start script before now bytes → IsDone alone start after new still bytes
 done_started alone script before after now new still started puts start bytes so_far =
     let begun = sym so_far.read.line.started ∙ started in
     record {
       within = within_started start.bounds script.input bytes begun so_far.read;
-      answered = rw (started_line bytes begun) (puts (cut bytes).rest so_far.read.line start (cut bytes).whole so_far.answered);
+      answered = rw (started_line bytes begun) (puts (cut bytes).rest so_far.read.line start (cut bytes).whole so_far.format so_far.answered);
     }
 
 -- there is no last line
@@ -252,12 +254,12 @@ done_ended alone script log now none start bytes after =
 
 -- the answering stopped at the last line
 pub stopped-at-last : (fault : ScriptFault) (alone : Bool) (script : Script) (before : List Entry) (now new : Option (List ℕ)) → script.input.line.started ≡ true
-    → ((line : List ℕ) → Holds script.input.line line → (start : RunStart) (lines others : List (List ℕ)) → AreAnswered alone start lines before now script.output.pending.items
+    → ((line : List ℕ) → Holds script.input.line line → (start : RunStart) (lines others : List (List ℕ)) → script.codec.reader.format ≡ start.format → AreAnswered alone start lines before now script.output.pending.items
     → (fault ≢ Read) × IsStopped alone start fault new (lines ++ (line ++ []) ∷ others))
     → (start : RunStart) (bytes : List ℕ) → IsAfter alone start script before now bytes → StoppedAtLast alone start fault new bytes
 stopped-at-last fault alone script before now new started stops start bytes so_far =
     let begun = sym so_far.read.line.started ∙ started in
-    let stop = stops (cut bytes).rest so_far.read.line start (cut bytes).whole [] so_far.answered in
+    let stop = stops (cut bytes).rest so_far.read.line start (cut bytes).whole [] so_far.format so_far.answered in
     record {
       other = stop.0;
       within = within_started start.bounds script.input bytes begun so_far.read;

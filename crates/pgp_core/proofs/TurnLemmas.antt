@@ -3,6 +3,7 @@ use Rattle.std.proofs.Common.{◌≡◌, ◌≢◌, ℕ, List, [], ◌++◌, Boo
 use Rattle.std.specs.Io.KnownBytes.{Appends, Consumes, Keeps, IsAtEnd}
 use Rattle.std.proofs.KnownBytes.{Consumes-trans, Consumes-kept}
 use Rattle.pgp_ids.specs.declared.entry.Entry.{Entry}
+use Rattle.pgp_text.specs.Commands.{Format}
 use Rattle.pgp_core.specs.Account.{Account, ReadFailedBy}
 use Rattle.pgp_core.specs.Lines.{cut}
 use Rattle.pgp_core.specs.Script.{whole_lines}
@@ -25,7 +26,7 @@ after_flush : (alone : Bool) (start : RunStart) (script : Script) (output : Outp
     → Appends now new script.output.pending.items → output.pending.items ≡ [] → IsAfter alone start script log now bytes
     → IsAfter alone start (record script { output = output }) log new bytes
 after_flush alone start script output log now new bytes wrote none after =
-    record { read = after.read; answered = rw none (written alone start (cut bytes).whole log now new _ after.answered wrote) }
+    record { format = after.format; read = after.read; answered = rw none (written alone start (cut bytes).whole log now new _ after.answered wrote) }
 
 pub turn : (alone : Bool) (start : RunStart) (script new : Script) (output : Output) (before after : List Entry) (from mid to now flushed then : Option (List ℕ)) (chunk : List ℕ)
     → Reads alone start script before from mid now → Appends now flushed script.output.pending.items → output.pending.items ≡ [] → Consumes mid to chunk
@@ -84,12 +85,12 @@ no_read_failed Gone before after kept = kept
 -- ---- where nobody else adds to the log
 
 -- no line is left
-never_left : (lines : List (List ℕ)) → StartsLeft true lines → ⊥
-never_left [] left = left
-never_left (line ∷ lines) left = let no : true ≡ false = left.shared in cc
+never_left : (format : Format) (lines : List (List ℕ)) → StartsLeft true format lines → ⊥
+never_left format [] left = left
+never_left format (line ∷ lines) left = let no : true ≡ false = left.shared in cc
 
-pub never_gone : (bounds : Bounds) (log : List Entry) (before after : Account) → WasStopped true bounds log before after Gone → ⊥
-never_gone bounds log before after was = elim was.stopped.answered [
-  | inl within ↦ never_left within.others (within.left refl)
-  | inr ended ↦ never_left ended.1.stopped.others (ended.1.stopped.left refl)
+pub never_gone : (format : Format) (bounds : Bounds) (log : List Entry) (before after : Account) → WasStopped true format bounds log before after Gone → ⊥
+never_gone format bounds log before after was = elim was.stopped.answered [
+  | inl within ↦ never_left format within.others (within.left refl)
+  | inr ended ↦ never_left format ended.1.stopped.others (ended.1.stopped.left refl)
 ]

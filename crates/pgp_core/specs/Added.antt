@@ -1,11 +1,11 @@
--- Which lines of a script add an entry to the log, and what any other line is. This project's own choice.
+-- Which lines of a script add an entry to the log, and what any other line is, where lines up to some version are read. This project's own choice.
 use Rattle.std.specs.Prelude.{◌≡◌, ℕ, List, [], ◌∷◌, ◌++◌, Bool, true, false, Option, Some, None, Result, Ok, Err, is_none, length, map, nat_lt, if◌then◌else◌}
 use Rattle.std.specs.Option.{option_map_or}
 use Rattle.pgp_ids.specs.declared.entry.Entry.{Entry}
 use Rattle.pgp_text.specs.Command.{command_of}
 use Rattle.pgp_text.specs.LineFault.{LineFault}
 use Rattle.pgp_text.specs.Reply.{reply_text}
-use Rattle.pgp_text.specs.Commands.{Command, Submit, Ask, Locate, Trace}
+use Rattle.pgp_text.specs.Commands.{Command, Format, Submit, Ask, Locate, Trace}
 use Rattle.pgp_log.specs.Fits.{fits}
 use Rattle.pgp_text.specs.declared.reply.Reply.{Reply}
 use Rattle.pgp_text.specs.declared.reply.Reply.TheVariants as reply
@@ -30,9 +30,9 @@ taken_by log (Ok command) = taken_from log command
 taken_by log (Err fault) = None
 
 -- the entry that a line adds to the log, if it adds one
-abbrev pub added_by : List Entry → List ℕ → Option Entry
-added_by log line =
-    if is_blank line then None else (if nat_lt longest_line (length line) then None else taken_by log (command_of line))
+abbrev pub added_by : Format → List Entry → List ℕ → Option Entry
+added_by format log line =
+    if is_blank line then None else (if nat_lt longest_line (length line) then None else taken_by log (command_of format line))
 
 -- the log after that
 abbrev pub with_added : List Entry → Option Entry → List Entry
@@ -47,17 +47,17 @@ abbrev pub entry_line : List ℕ → Entry → EntryLine
 entry_line line entry = record { line = line; entry = entry }
 
 -- the lines that add an entry, each with its entry, where the log has these entries before them
-abbrev pub entry_lines : List Entry → List (List ℕ) → List EntryLine
-entry_lines log [] = []
-entry_lines log (line ∷ lines) =
-    option_map_or (λ entry. entry_line line entry ∷ entry_lines (log ++ entry ∷ []) lines) (added_by log line) (entry_lines log lines)
+abbrev pub entry_lines : Format → List Entry → List (List ℕ) → List EntryLine
+entry_lines format log [] = []
+entry_lines format log (line ∷ lines) =
+    option_map_or (λ entry. entry_line line entry ∷ entry_lines format (log ++ entry ∷ []) lines) (added_by format log line) (entry_lines format log lines)
 
 abbrev pub entries_of : List EntryLine → List Entry
 entries_of lines = map (λ it. it.entry) lines
 
 -- the log that the lines of a script make
-abbrev pub log_of_lines : List (List ℕ) → List Entry
-log_of_lines lines = entries_of (entry_lines [] lines)
+abbrev pub log_of_lines : Format → List (List ℕ) → List Entry
+log_of_lines format lines = entries_of (entry_lines format [] lines)
 
 -- ---- any other line
 
@@ -72,23 +72,23 @@ is_refusal (reply.Refused why) = true
 is_refusal _ = false
 
 -- the line asks what has an answer
-pub record IsQuestion (log : List Entry) (line : List ℕ) : Type 0 where
+pub record IsQuestion (format : Format) (log : List Entry) (line : List ℕ) : Type 0 where
   pub command : Command
-  pub reads : command_of line ≡ Ok command
+  pub reads : command_of format line ≡ Ok command
   pub question : is_question command ≡ true
   pub answered : is_refusal (reply_of log command) ≡ false
 
 -- a run would answer the line by this refusal
-pub record IsRefused (log : List Entry) (line : List ℕ) (why : Reply) : Type 0 where
+pub record IsRefused (format : Format) (log : List Entry) (line : List ℕ) (why : Reply) : Type 0 where
   pub some : is_blank line ≡ false
-  pub refused : reply_text_of log line ≡ reply_text why
+  pub refused : reply_text_of format log line ≡ reply_text why
 
 -- what the line is to the log before it
-abbrev pub IsOutcome : List Entry → List ℕ → LineOutcome → Type 0
-IsOutcome log line Blank = is_blank line ≡ true
-IsOutcome log line Taken = (entry : Entry) × (added_by log line ≡ Some entry)
-IsOutcome log line Asked = (added_by log line ≡ None) × IsQuestion log line
-IsOutcome log line (Refused why) = (added_by log line ≡ None) × IsRefused log line (reply.Refused why)
+abbrev pub IsOutcome : Format → List Entry → List ℕ → LineOutcome → Type 0
+IsOutcome format log line Blank = is_blank line ≡ true
+IsOutcome format log line Taken = (entry : Entry) × (added_by format log line ≡ Some entry)
+IsOutcome format log line Asked = (added_by format log line ≡ None) × IsQuestion format log line
+IsOutcome format log line (Refused why) = (added_by format log line ≡ None) × IsRefused format log line (reply.Refused why)
 
 -- the same, where the line was read as this command
 abbrev pub IsOutcomeOf : List Entry → Command → LineOutcome → Type 0

@@ -20,7 +20,7 @@ use Rattle.pgp_text.specs.Command.{command_of}
 use Rattle.pgp_text.specs.EntryOp.{entry_op}
 use Rattle.pgp_text.specs.LineFault.{LineFault, line_too_long}
 use Rattle.pgp_text.specs.Reply.{reply_text, fault_text}
-use Rattle.pgp_text.specs.Commands.{Command, Submit, Ask, Locate, Trace}
+use Rattle.pgp_text.specs.Commands.{Command, Format, Submit, Ask, Locate, Trace}
 use Rattle.pgp_text.specs.declared.reply.Reply.{Reply}
 use Rattle.pgp_text.specs.declared.reply.Reply.TheVariants.{Accepted, Asked, Located, Traced, Refused}
 use Rattle.pgp_text.specs.declared.reply.line_refusal.LineRefusal.TheVariants as why
@@ -77,9 +77,9 @@ abbrev pub text_of : List Entry → Result Command LineFault → List ℕ
 text_of log (Ok command) = reply_text (reply_of log command)
 text_of log (Err fault) = fault_text fault
 
--- the text for a line that isn't blank and not too long
-abbrev pub line_text : List Entry → List ℕ → List ℕ
-line_text log line = text_of log (command_of line)
+-- the text for a line that isn't blank and not too long, where lines up to this version are read
+abbrev pub line_text : Format → List Entry → List ℕ → List ℕ
+line_text format log line = text_of log (command_of format line)
 
 -- the log after what was read
 abbrev pub log_of : List Entry → Result Command LineFault → List Entry
@@ -87,8 +87,8 @@ log_of log (Ok command) = log_after log command
 log_of log (Err fault) = log
 
 -- the log after such a line
-abbrev pub line_log : List Entry → List ℕ → List Entry
-line_log log line = log_of log (command_of line)
+abbrev pub line_log : Format → List Entry → List ℕ → List Entry
+line_log format log line = log_of log (command_of format line)
 
 -- the text for a line that is too long
 abbrev pub long_text : List ℕ

@@ -2,6 +2,7 @@
 -- who add to the log too.
 use Rattle.std.specs.Prelude.{ℕ, List, [], Bool}
 use Rattle.pgp_ids.specs.declared.entry.Entry.{Entry}
+use Rattle.pgp_text.specs.Commands.{Format}
 use Rattle.pgp_core.specs.Account.{Account}
 use Rattle.pgp_core.specs.Telling.{RanToEnd, WasStopped}
 use Rattle.pgp_core.specs.declared.fault.ScriptFault.{ScriptFault}
@@ -16,10 +17,10 @@ abbrev pub script_bounds : Bounds
 script_bounds = bounds_of 1000000 4294967296
 
 -- The script was answered to its end, and no call failed.
-pub record AllAnswered (alone : Bool) (bounds : Bounds) (before after : Account) : Type 0 where
+pub record AllAnswered (alone : Bool) (format : Format) (bounds : Bounds) (before after : Account) : Type 0 where
   pub log : List Entry
-  pub ran : RanToEnd alone bounds [] log before after
+  pub ran : RanToEnd alone format bounds [] log before after
 
 -- this fault stopped the answering
-abbrev pub Stopped : (alone : Bool) (bounds : Bounds) (before after : Account) → ScriptFault → Type 0
-Stopped alone bounds before after fault = WasStopped alone bounds [] before after fault
+abbrev pub Stopped : (alone : Bool) (format : Format) (bounds : Bounds) (before after : Account) → ScriptFault → Type 0
+Stopped alone format bounds before after fault = WasStopped alone format bounds [] before after fault

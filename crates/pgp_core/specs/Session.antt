@@ -4,7 +4,7 @@ use Rattle.pgp_ids.specs.declared.entry.Entry.{Entry}
 use Rattle.pgp_ids.specs.declared.pg_id.PgId.{PgId}
 use Rattle.pgp_ids.specs.declared.view.View.{View}
 use Rattle.pgp_group.specs.View.{scratch}
-use Rattle.pgp_text.specs.Commands.{Command}
+use Rattle.pgp_text.specs.Commands.{Command, Format}
 use Rattle.pgp_text.specs.declared.reply.Reply.{Reply}
 use Rattle.pgp_core.specs.Answer.{long_text, log_after, reply_of}
 use Rattle.pgp_core.specs.Script.{want_text}
@@ -12,8 +12,9 @@ use Rattle.pgp_core.specs.declared.want.Want.{Want}
 use Rattle.pgp_core.specs.declared.session.LastAnswer.{LastAnswer}
 use Rattle.pgp_core.specs.declared.session.LastAnswer.TheVariants.{Written, LineTooLong, NoMemory}
 
--- a log, and what was written for the last line, with its line feed: nothing before the first line and for a blank one
+-- up to which version it reads lines, its log, and what was written for the last line, with its line feed: nothing before the first line and for a blank one
 pub record LogAndAnswer : Type 0 where
+  pub format : Format
   pub log : List Entry
   pub answer : List ℕ
 

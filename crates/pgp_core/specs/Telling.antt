@@ -3,6 +3,7 @@
 use Rattle.std.specs.Prelude.{◌≡◌, ◌≢◌, ◌⊎◌, ℕ, List, [], ◌++◌, Bool, true, Option}
 use Rattle.std.specs.Io.KnownBytes.{Appends, Consumes, IsAtEnd}
 use Rattle.pgp_ids.specs.declared.entry.Entry.{Entry}
+use Rattle.pgp_text.specs.Commands.{Format}
 use Rattle.pgp_core.specs.Lines.{cut, lines_of}
 use Rattle.pgp_core.specs.Script.{IsBeyond, Within, whole_lines}
 use Rattle.pgp_core.specs.Output.{WrittenPart, FrontWent}
@@ -14,21 +15,22 @@ use Rattle.pgp_core.specs.declared.script.Script.{Script}
 use Rattle.pgp_core.specs.declared.fault.ScriptFault.{ScriptFault}
 use Rattle.pgp_core.specs.declared.fault.ScriptFault.TheVariants.{Read, Write, Gone}
 
--- what a run starts with: the log, how large its script may be, and what the writer held
+-- what a run starts with: up to which version it reads lines, the log, how large its script may be, and what the writer held
 pub record RunStart : Type 0 where
+  pub format : Format
   pub log : List Entry
   pub bounds : Bounds
   pub written : Option (List ℕ)
 
-abbrev pub run_start : List Entry → Bounds → Option (List ℕ) → RunStart
-run_start log bounds written = record { log = log; bounds = bounds; written = written }
+abbrev pub run_start : Format → List Entry → Bounds → Option (List ℕ) → RunStart
+run_start format log bounds written = record { format = format; log = log; bounds = bounds; written = written }
 
 -- ---- lines
 
 -- The answers to these lines are written, except for what is pending of them, and the log is this one then.
 pub record AreAnswered (alone : Bool) (start : RunStart) (lines : List (List ℕ)) (log : List Entry) (now : Option (List ℕ)) (pending : List ℕ) : Type 0 where
   pub out : List ℕ
-  pub told : AreWrittenFor alone start.log lines log out
+  pub told : AreWrittenFor alone start.format start.log lines log out
   pub went : WrittenPart start.written now out pending
 
 -- how much of a text went out: a front of it where a write failed, and else all of it
@@ -45,15 +47,16 @@ pub record IsStopped (alone : Bool) (start : RunStart) (fault : ScriptFault) (no
   pub parts : lines ≡ done ++ others
   pub log : List Entry
   pub out : List ℕ
-  pub told : AreWrittenFor alone start.log done log out
+  pub told : AreWrittenFor alone start.format start.log done log out
   pub went : WentBy fault start.written now out
   pub all : fault ≡ Read → others ≡ []
-  pub left : fault ≡ Gone → StartsLeft alone others
+  pub left : fault ≡ Gone → StartsLeft alone start.format others
 
 -- ---- bytes
 
--- These bytes were read, and the answers to the lines that have ended are written or pending.
+-- These bytes were read, by a reader of lines up to that version, and the answers to the lines that have ended are written or pending.
 pub record IsAfter (alone : Bool) (start : RunStart) (script : Script) (log : List Entry) (now : Option (List ℕ)) (bytes : List ℕ) : Type 0 where
+  pub format : script.codec.reader.format ≡ start.format
   pub read : HasRead start.bounds script.input bytes
   pub answered : AreAnswered alone start (cut bytes).whole log now script.output.pending.items
 
@@ -101,14 +104,14 @@ pub record Stops (alone : Bool) (start : RunStart) (fault : ScriptFault) (from t
 -- ---- what is known of the reader and the writer after it
 
 -- The reader gave this script and is at its end, all answers to its lines are written, and no call failed.
-pub record RanToEnd (alone : Bool) (bounds : Bounds) (log_before log_after : List Entry) (before after : Account) : Type 0 where
+pub record RanToEnd (alone : Bool) (format : Format) (bounds : Bounds) (log_before log_after : List Entry) (before after : Account) : Type 0 where
   pub script : List ℕ
   pub consumed : Consumes before.remaining after.remaining script
   pub ended : IsAtEnd after.remaining
-  pub done : IsDone alone (run_start log_before bounds before.contents) log_after after.contents [] script
+  pub done : IsDone alone (run_start format log_before bounds before.contents) log_after after.contents [] script
   pub quiet : NoCallFailed before after
 
 -- This fault stopped the answering of the script.
-pub record WasStopped (alone : Bool) (bounds : Bounds) (log_before : List Entry) (before after : Account) (fault : ScriptFault) : Type 0 where
-  pub stopped : Stops alone (run_start log_before bounds before.contents) fault before.remaining after.remaining after.contents after.read_failed
+pub record WasStopped (alone : Bool) (format : Format) (bounds : Bounds) (log_before : List Entry) (before after : Account) (fault : ScriptFault) : Type 0 where
+  pub stopped : Stops alone (run_start format log_before bounds before.contents) fault before.remaining after.remaining after.contents after.read_failed
   pub failed : FailedBy fault before after

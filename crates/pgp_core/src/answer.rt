@@ -31,11 +31,12 @@ pub fn answer_line<A: Answerer>(
     answerer: &mut A,
     text: &mut Vec<u8>,
 ) -> Result<(), NoReply>
-    ensures ok { OnOk result (PutsText A.alone (A.log answerer.old) (A.log answerer.new) line.now text.old.items text.new.items) }
+    ensures ok { OnOk result (PutsText A.alone codec.old.reader.format (A.log answerer.old) (A.log answerer.new) line.now text.old.items text.new.items) }
     ensures lacks { IfErr result (λ why. is_blank line.now ≡ false → length line.now ≤ longest_line
-        → MayLack A.alone why line.now) }
+        → MayLack A.alone codec.old.reader.format why line.now) }
     ensures text { OnErr result (text.new.items ≡ text.old.items) }
     ensures log { OnErr result (MayAnswerBy A.alone (A.log answerer.old) (A.log answerer.new)) }
+    ensures format { codec.new.reader.format ≡ codec.old.reader.format }
 {
     match codec.reader.read(alloc, line) {
         Ok(command) => answer_command(alloc, &mut codec.writer, command, answerer, text),

@@ -1,6 +1,8 @@
 //! What reads lines and writes replies, with room that it keeps from line to line.
 
-use pgp_text::{LineReader, ReplyWriter};
+ghost use Rattle.std.specs.Prelude.{◌≡◌};
+
+use pgp_text::{Format, LineReader, ReplyWriter};
 use std::alloc::Global;
 
 /// Reads lines and writes replies.
@@ -19,9 +21,12 @@ impl Drop for Codec {
 }
 
 impl Codec {
-    pub fn new(alloc: Global) -> Self {
+    /// Reads lines up to this version.
+    pub fn new(alloc: Global, format: Format) -> Self
+        ensures { result.reader.format ≡ format }
+    {
         Codec {
-            reader: LineReader::new(alloc),
+            reader: LineReader::new(alloc, format),
             writer: ReplyWriter::new(alloc),
         }
     }

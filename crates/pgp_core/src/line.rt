@@ -108,9 +108,10 @@ impl LineBuffer {
         text: &mut Vec<u8>,
     ) -> Option<&'static [u8]>
         ensures put { IfSome result (λ rest. (line : List ℕ) → Holds self.old line
-            → PutsLine A.alone (A.log answerer.old) (A.log answerer.new) (line ++ piece.now) text.old.items text.new.items rest.now) }
-        ensures left { result ≡ None → (line : List ℕ) → Holds self.old line → IsLeft A.alone (line ++ piece.now) }
+            → PutsLine A.alone codec.old.reader.format (A.log answerer.old) (A.log answerer.new) (line ++ piece.now) text.old.items text.new.items rest.now) }
+        ensures left { result ≡ None → (line : List ℕ) → Holds self.old line → IsLeft A.alone codec.old.reader.format (line ++ piece.now) }
         ensures text { result ≡ None → text.new.items ≡ text.old.items }
+        ensures format { codec.new.reader.format ≡ codec.old.reader.format }
     {
         if self.started || piece.len() > LONGEST_LINE {
             self.add(piece);
@@ -132,9 +133,10 @@ impl LineBuffer {
         text: &mut Vec<u8>,
     ) -> Option<&'static [u8]>
         ensures put { IfSome result (λ rest. (line : List ℕ) → Holds self.now line
-            → PutsLine A.alone (A.log answerer.old) (A.log answerer.new) line text.old.items text.new.items rest.now) }
-        ensures left { result ≡ None → (line : List ℕ) → Holds self.now line → IsLeft A.alone line }
+            → PutsLine A.alone codec.old.reader.format (A.log answerer.old) (A.log answerer.new) line text.old.items text.new.items rest.now) }
+        ensures left { result ≡ None → (line : List ℕ) → Holds self.now line → IsLeft A.alone codec.old.reader.format line }
         ensures text { result ≡ None → text.new.items ≡ text.old.items }
+        ensures format { codec.new.reader.format ≡ codec.old.reader.format }
     {
         if self.blank {
             return Some(&[]);
@@ -158,9 +160,10 @@ fn answer_bytes<A: Answerer>(
     text: &mut Vec<u8>,
 ) -> Option<&'static [u8]>
     ensures put { IfSome result (λ rest. is_blank line.now ≡ false → length line.now ≤ longest_line
-        → PutsLine A.alone (A.log answerer.old) (A.log answerer.new) line.now text.old.items text.new.items rest.now) }
-    ensures left { result ≡ None → is_blank line.now ≡ false → length line.now ≤ longest_line → IsLeft A.alone line.now }
+        → PutsLine A.alone codec.old.reader.format (A.log answerer.old) (A.log answerer.new) line.now text.old.items text.new.items rest.now) }
+    ensures left { result ≡ None → is_blank line.now ≡ false → length line.now ≤ longest_line → IsLeft A.alone codec.old.reader.format line.now }
     ensures text { result ≡ None → text.new.items ≡ text.old.items }
+    ensures format { codec.new.reader.format ≡ codec.old.reader.format }
 {
     match answer_line(alloc, codec, line, answerer, text) {
         Ok(()) => Some(&[]),

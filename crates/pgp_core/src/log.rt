@@ -20,7 +20,7 @@ use super::answerer::{Answerer, NoReply};
 use super::replies::{asked_reply, traced_reply};
 use super::want::Want;
 use pgp_ids::{AskRefusal, Entry, LocateRefusal, ObjectName, PgId, PoolId, Refusal, View};
-use pgp_log::{JudgedLog, RawSets, ShardState, has_group};
+use pgp_log::{JudgedLog, RawSets, ShardState};
 use pgp_map::OsdMap;
 use pgp_text::{Command, EntryOp, LineRefusal, Reply, ReplyWriter};
 use std::alloc::{AllocError, Global};
@@ -112,7 +112,7 @@ impl Log {
         ensures memory { OnErr result (has_group (incs_of self.old) pg ≡ true) }
         ensures same { self.new ≡ self.old }
     {
-        if !has_group(self.log.map(), &pg) {
+        if !self.log.map().has_group(&pg) {
             return Ok(None);
         }
         self.shard.absorb_next(self.log.entries(), self.log.len())?;

@@ -35,10 +35,11 @@ impl Log {
         reader: &mut LineReader,
         line: &[u8],
     ) -> Result<LineOutcome, AllocError>
-        ensures outcome { IfOk result (IsOutcome self.old line.now) }
-        ensures log { IfOk result (λ _. self.new ≡ with_added self.old (added_by self.old line.now)) }
+        ensures outcome { IfOk result (IsOutcome reader.old.format self.old line.now) }
+        ensures log { IfOk result (λ _. self.new ≡ with_added self.old (added_by reader.old.format self.old line.now)) }
         ensures kept { OnErr result (self.new ≡ self.old) }
         ensures memory { OnErr result (TakesMemory line.now) }
+        ensures format { reader.new.format ≡ reader.old.format }
     {
         if all_blank(line) {
             return Ok(LineOutcome::Blank);

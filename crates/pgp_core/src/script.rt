@@ -17,6 +17,7 @@ use super::input::{Bounds, Input, SCRIPT_BOUNDS, split_line};
 use super::log::Log;
 use super::output::Output;
 use super::streams::{Sink, Source};
+use pgp_text::Format;
 use std::alloc::Global;
 
 /// How many bytes a read asks for.
@@ -26,7 +27,7 @@ const CHUNK: usize = 65536;
 pub struct Script {
     pub input: Input,
     pub output: Output,
-    codec: Codec,
+    pub codec: Codec,
 }
 
 impl Drop for Script {
@@ -40,15 +41,15 @@ impl Drop for Script {
 }
 
 impl Script {
-    fn new(alloc: Global, bounds: Bounds) -> Self
+    fn new(alloc: Global, format: Format, bounds: Bounds) -> Self
         ensures left { result.input.left ≡ bounds }
         ensures start { (alone : Bool) (log : List Entry) (written : Option (List ℕ))
-            → IsAfter alone (run_start log bounds written) result log written [] }
+            → IsAfter alone (run_start format log bounds written) result log written [] }
     {
         Script {
             input: Input::new(alloc, bounds),
             output: Output::new(alloc),
-            codec: Codec::new(alloc),
+            codec: Codec::new(alloc, format),
         }
     }
 
@@ -62,14 +63,15 @@ impl Script {
         writer: &mut W,
     ) -> Result<(), ScriptFault>
         ensures ok { OnOk result ((line : List ℕ) → Holds self.old.input.line line → (start : RunStart) (lines : List (List ℕ))
-            → AreAnswered A.alone start lines (A.log answerer.old) (W.contents writer.old) self.old.output.pending.items
+            → self.old.codec.reader.format ≡ start.format → AreAnswered A.alone start lines (A.log answerer.old) (W.contents writer.old) self.old.output.pending.items
             → AreAnswered A.alone start (lines ++ (line ++ piece.now) ∷ []) (A.log answerer.new) (W.contents writer.new) self.new.output.pending.items) }
         ensures err { IfErr result (λ fault. (line : List ℕ) → Holds self.old.input.line line → (start : RunStart) (lines others : List (List ℕ))
-            → AreAnswered A.alone start lines (A.log answerer.old) (W.contents writer.old) self.old.output.pending.items
+            → self.old.codec.reader.format ≡ start.format → AreAnswered A.alone start lines (A.log answerer.old) (W.contents writer.old) self.old.output.pending.items
             → (fault ≢ ScriptFault.Read) × IsStopped A.alone start fault (W.contents writer.new) (lines ++ (line ++ piece.now) ∷ others)) }
         ensures failed { WritesFailed result (W.failed writer.old) (W.failed writer.new) }
         ensures passed_on { IfErr result (λ fault. fault ≢ ScriptFault.Write → W.passed_on writer.new ≡ true) }
         ensures left { self.new.input.left ≡ self.old.input.left }
+        ensures format { self.new.codec.reader.format ≡ self.old.codec.reader.format }
     {
         let answer = self.input.line.answer(
             alloc,
@@ -243,16 +245,17 @@ impl Script {
     }
 }
 
-/// Answers the script that the reader gives: at most a million lines, and 4 GiB.
+/// Answers the script that the reader gives, at most a million lines and 4 GiB, with lines up to this version.
 pub fn run_script<R: Source, W: Sink>(
     alloc: Global,
+    format: Format,
     reader: &mut R,
     writer: &mut W,
 ) -> Result<(), ScriptFault>
-    ensures ok { OnOk result (AllAnswered true script_bounds
+    ensures ok { OnOk result (AllAnswered true format script_bounds
         (account (R.remaining reader.old) (W.contents writer.old) (R.failed reader.old) (W.failed writer.old))
         (account (R.remaining reader.new) (W.contents writer.new) (R.failed reader.new) (W.failed writer.new))) }
-    ensures err { IfErr result (Stopped true script_bounds
+    ensures err { IfErr result (Stopped true format script_bounds
         (account (R.remaining reader.old) (W.contents writer.old) (R.failed reader.old) (W.failed writer.old))
         (account (R.remaining reader.new) (W.contents writer.new) (R.failed reader.new) (W.failed writer.new))) }
     ensures never_gone { result ≢ Err ScriptFault.Gone }
@@ -260,6 +263,7 @@ pub fn run_script<R: Source, W: Sink>(
 {
     run_script_within(
         alloc,
+        format,
         reader,
         writer,
         SCRIPT_BOUNDS.lines,
@@ -267,7 +271,7 @@ pub fn run_script<R: Source, W: Sink>(
     )
 }
 
-/// Answers the script that the reader gives, of at most this many lines and this many bytes.
+/// Answers the script that the reader gives, of at most this many lines and this many bytes, with lines up to this version.
 ///
 /// What was read is answered to its end, and a fault says what it leaves: after [`ScriptFault::Read`] the lines that
 /// were read whole within the bounds are answered, and after [`ScriptFault::Write`] a first part of the answers went out. A
@@ -275,15 +279,16 @@ pub fn run_script<R: Source, W: Sink>(
 /// [`ScriptFault::Gone`].
 pub fn run_script_within<R: Source, W: Sink>(
     alloc: Global,
+    format: Format,
     reader: &mut R,
     writer: &mut W,
     max_lines: u64,
     max_bytes: u64,
 ) -> Result<(), ScriptFault>
-    ensures ok { OnOk result (AllAnswered true (bounds_of max_lines max_bytes)
+    ensures ok { OnOk result (AllAnswered true format (bounds_of max_lines max_bytes)
         (account (R.remaining reader.old) (W.contents writer.old) (R.failed reader.old) (W.failed writer.old))
         (account (R.remaining reader.new) (W.contents writer.new) (R.failed reader.new) (W.failed writer.new))) }
-    ensures err { IfErr result (Stopped true (bounds_of max_lines max_bytes)
+    ensures err { IfErr result (Stopped true format (bounds_of max_lines max_bytes)
         (account (R.remaining reader.old) (W.contents writer.old) (R.failed reader.old) (W.failed writer.old))
         (account (R.remaining reader.new) (W.contents writer.new) (R.failed reader.new) (W.failed writer.new))) }
     ensures never_gone { result ≢ Err ScriptFault.Gone }
@@ -293,30 +298,31 @@ pub fn run_script_within<R: Source, W: Sink>(
         lines: max_lines,
         bytes: max_bytes,
     };
-    answer_script(alloc, &mut Log::new(alloc), reader, writer, bounds)
+    answer_script(alloc, format, &mut Log::new(alloc), reader, writer, bounds)
 }
 
-/// Has the answerer answer the script that the reader gives, within bounds.
+/// Has the answerer answer the script that the reader gives, within bounds, with lines up to this version.
 ///
 /// A fault says what it leaves, as at [`run_script_within`]. After [`ScriptFault::Gone`] the lines before the first one that
 /// nobody answers are answered, and no line from there on.
 pub fn answer_script<A: Answerer, R: Source, W: Sink>(
     alloc: Global,
+    format: Format,
     answerer: &mut A,
     reader: &mut R,
     writer: &mut W,
     bounds: Bounds,
 ) -> Result<(), ScriptFault>
-    ensures ok { OnOk result (RanToEnd A.alone bounds (A.log answerer.old) (A.log answerer.new)
+    ensures ok { OnOk result (RanToEnd A.alone format bounds (A.log answerer.old) (A.log answerer.new)
         (account (R.remaining reader.old) (W.contents writer.old) (R.failed reader.old) (W.failed writer.old))
         (account (R.remaining reader.new) (W.contents writer.new) (R.failed reader.new) (W.failed writer.new))) }
-    ensures err { IfErr result (WasStopped A.alone bounds (A.log answerer.old)
+    ensures err { IfErr result (WasStopped A.alone format bounds (A.log answerer.old)
         (account (R.remaining reader.old) (W.contents writer.old) (R.failed reader.old) (W.failed writer.old))
         (account (R.remaining reader.new) (W.contents writer.new) (R.failed reader.new) (W.failed writer.new))) }
     ensures passed_on { result ≢ Err ScriptFault.Write → W.passed_on writer.new ≡ true }
 {
     let mut chunk = [0u8; CHUNK];
-    let mut script = Script::new(alloc, bounds);
+    let mut script = Script::new(alloc, format, bounds);
     while script.read_on(alloc, &mut chunk, answerer, reader, writer)? != 0 {}
     script.finish(alloc, answerer, writer)?;
     Ok(())

@@ -15,7 +15,7 @@ use super::line::{LONGEST_LINE, all_blank, long_line, want_line};
 use super::log::Log;
 use super::want::Want;
 use pgp_ids::{Entry, ObjectName, PgId, PoolId, View};
-use pgp_text::Reply;
+use pgp_text::{Format, Reply};
 use std::alloc::{AllocError, Global};
 use std::marker::Model;
 use std::sync::Arc;
@@ -35,7 +35,7 @@ pub enum LastAnswer {
 /// script doesn't stand on it: a stream gives a line in pieces, and an engine may answer in the log's place. Both end in
 /// `answer_line`.
 ///
-/// Contracts see it as its log and that answer.
+/// Contracts see it as the version up to which it reads lines, its log and that answer.
 #[derive(Drop)]
 pub struct Session {
     alloc: Global,
@@ -49,19 +49,20 @@ pub struct Session {
 impl Model for Session {
     ghost Value = { LogAndAnswer };
 
-    ghost view = { λ session. record { log = session.log; answer = last_text session.last session.text.items } };
+    ghost view = { λ session. record { format = session.codec.reader.format; log = session.log; answer = last_text session.last session.text.items } };
 }
 
 impl Session {
-    /// An empty log, before its first line. It takes no memory.
-    pub fn new(alloc: Global) -> Self
+    /// An empty log, before its first line, of a session that reads lines up to this version. It takes no memory.
+    pub fn new(alloc: Global, format: Format) -> Self
+        ensures format { result.format ≡ format }
         ensures log { result.log ≡ [] }
         ensures answer { result.answer ≡ [] }
     {
         Session {
             alloc,
             log: Log::new(alloc),
-            codec: Codec::new(alloc),
+            codec: Codec::new(alloc, format),
             text: Vec::new(alloc),
             last: LastAnswer::Written,
         }
@@ -72,9 +73,10 @@ impl Session {
     ///
     /// An error says what there was no memory for. The line then has its constant text, and the log stays as it was.
     pub fn answer(&mut self, line: &[u8]) -> Result<(), Want>
-        ensures may { MayMeet (met_by result) line.now }
-        ensures answer { self.new.answer ≡ answer self.old.log (met_by result) line.now }
-        ensures log { self.new.log ≡ log_past self.old.log (met_by result) line.now }
+        ensures may { MayMeet self.old.format (met_by result) line.now }
+        ensures answer { self.new.answer ≡ answer self.old.format self.old.log (met_by result) line.now }
+        ensures log { self.new.log ≡ log_past self.old.format self.old.log (met_by result) line.now }
+        ensures format { self.new.format ≡ self.old.format }
     {
         self.text.clear();
         self.last = LastAnswer::Written;
@@ -138,6 +140,7 @@ impl Session {
         ensures reply { IfOk result (λ reply. reply ≡ reply_in self.old.log (Submit entry)) }
         ensures log { OnOk result (self.new.log ≡ log_in self.old.log (Submit entry)) }
         ensures answer { self.new.answer ≡ self.old.answer }
+        ensures format { self.new.format ≡ self.old.format }
         ensures kept { OnErr result (self.new.log ≡ self.old.log) }
         ensures memory { OnErr result (MayFindNone self.old.log (Submit entry)) }
     {
@@ -158,6 +161,7 @@ impl Session {
         requires { is_legal (map arc_value entries.now) ≡ true }
         ensures log { OnOk result (self.new.log ≡ map arc_value entries.now) }
         ensures answer { self.new.answer ≡ self.old.answer }
+        ensures format { self.new.format ≡ self.old.format }
         ensures kept { OnErr result (self.new.log ≡ self.old.log) }
     {
         self.log = Log::over(self.alloc, entries)?;

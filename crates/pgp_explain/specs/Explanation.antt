@@ -8,6 +8,7 @@ use Rattle.pgp_group.specs.Entries.{incs_of}
 use Rattle.pgp_group.specs.GroupLog.{GroupLog, group_in}
 use Rattle.pgp_group.specs.View.{scratch}
 use Rattle.pgp_reasons.specs.Reasons.{AreReasons}
+use Rattle.pgp_text.specs.Commands.{Format}
 use Rattle.pgp_core.specs.Output.{FrontWent}
 use Rattle.pgp_core.specs.declared.whole.WholeFault.TheVariants.{Read, TooLarge, Memory}
 use Rattle.pgp_group_words.specs.Json.{json_of}
@@ -22,14 +23,16 @@ use Rattle.pgp_explain.specs.SummaryText.{summary_text}
 use Rattle.pgp_explain.specs.declared.explain_fault.ExplainFault.{ExplainFault}
 use Rattle.pgp_explain.specs.declared.explain_fault.ExplainFault.TheVariants.{Script, Write, UnknownGroup}
 
--- what is asked for: a group, or else a summary of all; as JSON, or else in words; and by how much epochs are ahead
+-- what is asked for: up to which version lines are read; a group, or else a summary of all; as JSON, or else in words; and by how
+-- much epochs are ahead
 pub record Question : Type 0 where
+  pub format : Format
   pub pg : Option PgId
   pub json : Bool
   pub offset : EpochOffset
 
-abbrev pub question : Option PgId → Bool → ℕ → Question
-question pg json epoch_offset = record { pg = pg; json = json; offset = record { 0 = epoch_offset } }
+abbrev pub question : Format → Option PgId → Bool → ℕ → Question
+question format pg json epoch_offset = record { format = format; pg = pg; json = json; offset = record { 0 = epoch_offset } }
 
 -- what is told of the group's pool is so by the map of these incrementals
 pub record AreOfPool (incs : List Incremental) (explanation : Explanation) : Type 0 where
@@ -65,7 +68,7 @@ SaysAsked log (Some pg) json offset text = IsGroupText log pg json offset text
 -- of a group what there is to say of it, or else the summary.
 pub record IsExplained (asked : Question) (from to start now : Option (List ℕ)) : Type 0 where
   pub log : List Entry
-  pub log_is : IsLogOfScript log from to
+  pub log_is : IsLogOfScript asked.format log from to
   pub text : Text
   pub says : SaysAsked log asked.pg asked.json asked.offset text
   pub went : Appends start now text
@@ -73,15 +76,15 @@ pub record IsExplained (asked : Question) (from to start now : Option (List ℕ)
 -- The same, where a write failed: a first part of the text went out.
 pub record IsCutShort (asked : Question) (from to start now : Option (List ℕ)) : Type 0 where
   pub log : List Entry
-  pub log_is : IsLogOfScript log from to
+  pub log_is : IsLogOfScript asked.format log from to
   pub text : Text
   pub says : SaysAsked log asked.pg asked.json asked.offset text
   pub front : FrontWent start now text
 
 -- The map of the log that the script makes has no group of this name.
-pub record HasNoGroup (pg : PgId) (from to : Option (List ℕ)) : Type 0 where
+pub record HasNoGroup (format : Format) (pg : PgId) (from to : Option (List ℕ)) : Type 0 where
   pub log : List Entry
-  pub log_is : IsLogOfScript log from to
+  pub log_is : IsLogOfScript format log from to
   pub none : scratch log pg ≡ None
 
 -- why there is no text: the map doesn't have the group that is asked about, or there was no memory

@@ -10,35 +10,41 @@ ghost use Rattle.pgp_explain.specs.Reading.{HasRefused, IsLogOfScript, IsOfReadi
 use super::explain_fault::ExplainFault;
 use pgp_core::{LineOutcome, Log, SCRIPT_BOUNDS, Source, WholeFault, first_line, read_whole};
 use pgp_line_words::put_fault;
-use pgp_text::LineReader;
+use pgp_text::{Format, LineReader};
 use std::alloc::{AllocError, Global};
 use std::io::Write;
 
-/// Reads a script whole, and gives the log that its lines make. What is wrong with them goes to `errors`; what can't be written
+/// Reads a script whole, and gives the log that its lines up to this version make. What is wrong with them goes to `errors`; what can't be written
 /// there is lost. It is read whole since what is wrong with a line is looked up in the line.
 pub fn read_log<R: Source, E: Write>(
     alloc: Global,
+    format: Format,
     reader: &mut R,
     errors: &mut E,
 ) -> Result<Log, ExplainFault>
-    ensures ok { IfOk result (λ log. IsLogOfScript log (R.remaining reader.old) (R.remaining reader.new)) }
-    ensures told { (errors.new ≡ errors.old) ⊎ IsRefusedInPart (R.remaining reader.old) (R.remaining reader.new) }
+    ensures ok { IfOk result (λ log. IsLogOfScript format log (R.remaining reader.old) (R.remaining reader.new)) }
+    ensures told { (errors.new ≡ errors.old) ⊎ IsRefusedInPart format (R.remaining reader.old) (R.remaining reader.new) }
     ensures err { IfErr result (λ fault. IsOfReading fault) }
     ensures read { result ≡ Err (ExplainFault.Script WholeFault.Read) → R.failed reader.new ≡ true }
     ensures large { result ≡ Err (ExplainFault.Script WholeFault.TooLarge) → GivesTooMuch script_bounds (R.remaining reader.old) (R.remaining reader.new) }
     ensures kept { result ≢ Err (ExplainFault.Script WholeFault.Read) → R.failed reader.new ≡ R.failed reader.old }
 {
     let script = read_whole(alloc, reader, SCRIPT_BOUNDS)?;
-    Ok(read_lines(alloc, script.as_slice(), errors)?)
+    Ok(read_lines(alloc, format, script.as_slice(), errors)?)
 }
 
 /// The log that the lines of the script make. What is wrong with them goes to `errors`, once all are read.
-fn read_lines<E: Write>(alloc: Global, script: &[u8], errors: &mut E) -> Result<Log, AllocError>
-    ensures log { IfOk result (λ log. log ≡ log_of_lines (lines_of script.now)) }
-    ensures told { (errors.new ≡ errors.old) ⊎ HasRefused [] (lines_of script.now) }
+fn read_lines<E: Write>(
+    alloc: Global,
+    format: Format,
+    script: &[u8],
+    errors: &mut E,
+) -> Result<Log, AllocError>
+    ensures log { IfOk result (λ log. log ≡ log_of_lines format (lines_of script.now)) }
+    ensures told { (errors.new ≡ errors.old) ⊎ HasRefused format [] (lines_of script.now) }
 {
     let mut faults = String::new(alloc);
-    let log = take_lines(alloc, script, &mut faults)?;
+    let log = take_lines(alloc, format, script, &mut faults)?;
     put(errors, faults.as_str());
     Ok(log)
 }
@@ -53,13 +59,18 @@ fn put<E: Write>(errors: &mut E, text: &str)
 }
 
 /// The log that the lines of the script make. What is wrong with them is put behind `faults`, which is empty before.
-fn take_lines(alloc: Global, script: &[u8], faults: &mut String) -> Result<Log, AllocError>
+fn take_lines(
+    alloc: Global,
+    format: Format,
+    script: &[u8],
+    faults: &mut String,
+) -> Result<Log, AllocError>
     requires { string_bytes faults.old ≡ [] }
-    ensures log { IfOk result (λ log. log ≡ log_of_lines (lines_of script.now)) }
-    ensures told { OnOk result ((string_bytes faults.new ≡ []) ⊎ HasRefused [] (lines_of script.now)) }
+    ensures log { IfOk result (λ log. log ≡ log_of_lines format (lines_of script.now)) }
+    ensures told { OnOk result ((string_bytes faults.new ≡ []) ⊎ HasRefused format [] (lines_of script.now)) }
 {
     let mut log = Log::new(alloc);
-    let mut reader = LineReader::new(alloc);
+    let mut reader = LineReader::new(alloc, format);
     let mut rest = script;
     let mut number = 0u64;
     while let Some((line, others)) = first_line(rest) {
@@ -79,11 +90,12 @@ fn take_line(
     number: u64,
     faults: &mut String,
 ) -> Result<(), AllocError>
-    ensures log { OnOk result (log.new ≡ with_added log.old (added_by log.old line.now)) }
-    ensures told { OnOk result ((string_bytes faults.new ≡ string_bytes faults.old) ⊎ IsRefusedLine log.old line.now) }
+    ensures log { OnOk result (log.new ≡ with_added log.old (added_by reader.old.format log.old line.now)) }
+    ensures told { OnOk result ((string_bytes faults.new ≡ string_bytes faults.old) ⊎ IsRefusedLine reader.old.format log.old line.now) }
+    ensures format { reader.new.format ≡ reader.old.format }
 {
     match log.read_line(alloc, reader, line)? {
-        LineOutcome::Refused(why) => put_fault(alloc, line, number, &why, faults),
+        LineOutcome::Refused(why) => put_fault(alloc, reader.format, line, number, &why, faults),
         LineOutcome::Blank | LineOutcome::Taken | LineOutcome::Asked => Ok(()),
     }
 }

@@ -18,15 +18,17 @@ use super::summary_text::text_of_summary;
 use pgp_core::{Log, Sink, Source, WholeFault, pass_on};
 use pgp_group_words::{EpochOffset, Explanation, put_json, put_words};
 use pgp_ids::PgId;
+use pgp_text::Format;
 use std::alloc::{AllocError, Global};
 use std::io::Write;
 
-/// Reads a script whole, and says at its end why the group has its verdict and what brings it back; without a group, how many
+/// Reads a script whole, with lines up to this version, and says at its end why the group has its verdict and what brings it back; without a group, how many
 /// groups have each verdict and for which devices they wait. What is wrong with lines goes to `errors`.
 ///
 /// With `json` it says so as one JSON object. `epoch_offset` is added to each epoch except 0.
 pub fn explain<R: Source, W: Sink, E: Write>(
     alloc: Global,
+    format: Format,
     reader: &mut R,
     writer: &mut W,
     errors: &mut E,
@@ -35,7 +37,7 @@ pub fn explain<R: Source, W: Sink, E: Write>(
     epoch_offset: u32,
 ) -> Result<(), ExplainFault>
     // The reader is at its end, and the writer got the text that says what is asked for by the log that its script makes.
-    ensures ok { OnOk result (IsExplained (question pg json epoch_offset) (R.remaining reader.old) (R.remaining reader.new)
+    ensures ok { OnOk result (IsExplained (question format pg json epoch_offset) (R.remaining reader.old) (R.remaining reader.new)
         (W.contents writer.old) (W.contents writer.new)) }
     ensures kept { OnOk result (W.failed writer.new ≡ W.failed writer.old) }
     ensures passed_on { OnOk result (W.passed_on writer.new ≡ true) }
@@ -44,17 +46,17 @@ pub fn explain<R: Source, W: Sink, E: Write>(
     ensures large { result ≡ Err (ExplainFault.Script WholeFault.TooLarge) → GivesTooMuch script_bounds (R.remaining reader.old) (R.remaining reader.new) }
     ensures reads { result ≢ Err (ExplainFault.Script WholeFault.Read) → R.failed reader.new ≡ R.failed reader.old }
     // A write failed, and what went out is a first part of that text.
-    ensures write { result ≡ Err ExplainFault.Write → (W.failed writer.new ≡ true) × IsCutShort (question pg json epoch_offset)
+    ensures write { result ≡ Err ExplainFault.Write → (W.failed writer.new ≡ true) × IsCutShort (question format pg json epoch_offset)
         (R.remaining reader.old) (R.remaining reader.new) (W.contents writer.old) (W.contents writer.new) }
     // The map of that log doesn't have this group, which is the one that is asked about.
     ensures unknown { (asked : Group) → result ≡ Err (ExplainFault.UnknownGroup asked) → (pg ≡ Some asked)
-        × HasNoGroup asked (R.remaining reader.old) (R.remaining reader.new) }
+        × HasNoGroup format asked (R.remaining reader.old) (R.remaining reader.new) }
     // At every other fault nothing was written.
     ensures unwritten { IfErr result (λ fault. fault ≢ ExplainFault.Write → writer.new ≡ writer.old) }
     // Nothing is told of lines, unless one of the script is refused.
-    ensures told { (errors.new ≡ errors.old) ⊎ IsRefusedInPart (R.remaining reader.old) (R.remaining reader.new) }
+    ensures told { (errors.new ≡ errors.old) ⊎ IsRefusedInPart format (R.remaining reader.old) (R.remaining reader.new) }
 {
-    let mut log = read_log(alloc, reader, errors)?;
+    let mut log = read_log(alloc, format, reader, errors)?;
     let text = asked_text(alloc, &mut log, pg, json, EpochOffset(epoch_offset))?;
     write_text(writer, text.as_str())
 }

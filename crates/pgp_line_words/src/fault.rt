@@ -2,11 +2,11 @@
 ghost use Rattle.std.specs.Prelude.{◌≡◌, ◌++◌, ◌∷◌, [], List, ℕ, codes, decimal, IfOk, OnOk, OnErr};
 ghost use Rattle.std.specs.String.{string_bytes};
 
-use super::lines::{format_of, op_of, shape_at};
+use super::lines::{op_of, shape_at, versions_of};
 use super::walk::fault_in;
 use super::wrong::key_words;
 use pgp_ids::{Refusal, TextFault};
-use pgp_text::LineRefusal;
+use pgp_text::{Format, LineRefusal};
 use serde_json::Value;
 use std::alloc::{AllocError, Global};
 use std::str::from_utf8;
@@ -14,9 +14,10 @@ use std::str::from_utf8;
 const LINE_FEED: u8 = b'\n';
 
 /// Puts one text line, with a line feed, for the line of this number, which is answered with a refusal: the refusal's name, and
-/// what is wrong. Where there is no memory, `errors` stays as it was.
+/// what is wrong, where lines up to the version `last` are read. Where there is no memory, `errors` stays as it was.
 pub fn put_fault(
     alloc: Global,
+    last: Format,
     line: &[u8],
     number: u64,
     refused: &LineRefusal,
@@ -27,7 +28,7 @@ pub fn put_fault(
         ++ (codes "line " ++ (decimal number ++ (codes ": " ++ (told ++ LINE_FEED ∷ [])))))) }
     ensures err { OnErr result (string_bytes errors.new ≡ string_bytes errors.old) }
 {
-    let told = text_of(alloc, line, refused)?;
+    let told = text_of(alloc, last, line, refused)?;
     let text = line_of(alloc, number, told.as_str())?;
     errors.push_str(text.as_str())
 }
@@ -41,10 +42,15 @@ fn line_of(alloc: Global, number: u64, told: &str) -> Result<String, AllocError>
 }
 
 /// The name of a refusal, and what is wrong. What the log refuses, and what has no answer, has its number behind its name.
-fn text_of(alloc: Global, line: &[u8], refused: &LineRefusal) -> Result<String, AllocError> {
+fn text_of(
+    alloc: Global,
+    last: Format,
+    line: &[u8],
+    refused: &LineRefusal,
+) -> Result<String, AllocError> {
     let name = refused.name();
     let number = refused.number();
-    let what = what_of(alloc, line, refused)?;
+    let what = what_of(alloc, last, line, refused)?;
     match refused {
         LineRefusal::Line(_) => format!(in alloc; "{name}: {what}"),
         _ => format!(in alloc; "{name} ({number}): {what}"),
@@ -52,9 +58,14 @@ fn text_of(alloc: Global, line: &[u8], refused: &LineRefusal) -> Result<String, 
 }
 
 /// What is wrong.
-fn what_of(alloc: Global, line: &[u8], refused: &LineRefusal) -> Result<String, AllocError> {
+fn what_of(
+    alloc: Global,
+    last: Format,
+    line: &[u8],
+    refused: &LineRefusal,
+) -> Result<String, AllocError> {
     match refused {
-        LineRefusal::Line(fault) => line_fault(alloc, line, fault),
+        LineRefusal::Line(fault) => line_fault(alloc, last, line, fault),
         LineRefusal::Entry(refusal) => entry_fault(alloc, *refusal),
         LineRefusal::Ask(refusal) => format!(in alloc; "{refusal}"),
         LineRefusal::Locate(refusal) => format!(in alloc; "{refusal}"),
@@ -86,7 +97,12 @@ fn tree_fault(fault: u8) -> &'static str {
 }
 
 /// Why a line is no command.
-fn line_fault(alloc: Global, line: &[u8], fault: &TextFault) -> Result<String, AllocError> {
+fn line_fault(
+    alloc: Global,
+    last: Format,
+    line: &[u8],
+    fault: &TextFault,
+) -> Result<String, AllocError> {
     match fault {
         TextFault::LineTooLong => String::from_str(alloc, "it has more than 1048576 bytes"),
         TextFault::NotJson => String::from_str(alloc, "it is no JSON text"),
@@ -97,7 +113,7 @@ fn line_fault(alloc: Global, line: &[u8], fault: &TextFault) -> Result<String, A
         }
         TextFault::BadField(key) => {
             let value = read(alloc, line)?;
-            field_fault(alloc, &value, key.as_str())
+            field_fault(alloc, last, &value, key.as_str())
         }
         TextFault::Memory => String::from_str(alloc, "out of memory"),
     }
@@ -111,14 +127,14 @@ fn key_fault(alloc: Global, line: &Value, key: &str) -> Result<String, AllocErro
 }
 
 /// What is wrong with the value that a line has at a key, or that it has none.
-fn field_fault(alloc: Global, line: &Value, key: &str) -> Result<String, AllocError> {
+fn field_fault(alloc: Global, last: Format, line: &Value, key: &str) -> Result<String, AllocError> {
     let Some(field) = line.get(key) else {
         return format!(in alloc; "{key} is absent");
     };
     let Some(shape) = shape_at(line, key) else {
         return whole_field(alloc, key);
     };
-    match fault_in(alloc, format_of(line), shape, field)? {
+    match fault_in(alloc, versions_of(line, last), shape, field)? {
         Some(wrong) => wrong.text(alloc, key),
         None => whole_field(alloc, key),
     }

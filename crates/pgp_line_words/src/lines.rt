@@ -1,9 +1,9 @@
 //! The keys of each operation, and what the values at them have to be.
 
-use super::numbers::{DEVICE, EPOCH, FORMAT, GROUP, PLACE, POOL, SIZE, SLOT, WEIGHT, WRITE};
+use super::numbers::{DEVICE, EPOCH, GROUP, PLACE, POOL, SIZE, SLOT, WEIGHT, WRITE};
 use super::objects::{CODE, CRUSH, PLACED_EPOCHS, PLAIN_EPOCHS, POOLS};
-use super::shape::{Field, Format, Shape};
-use pgp_text::Op;
+use super::shape::{Field, Shape, Versions};
+use pgp_text::{Format, Op};
 use serde_json::Value;
 
 const DEVICES: Shape = Shape::List(&DEVICE);
@@ -42,16 +42,16 @@ const LOG: Shape = Shape::ListWithin {
     high: 256,
 };
 
-const ASK: &[Field] = &[Field("pg", PG), Field("v", FORMAT)];
+const ASK: &[Field] = &[Field("pg", PG), Field("v", Shape::Version)];
 
-const CLOSE: &[Field] = &[Field("v", FORMAT)];
+const CLOSE: &[Field] = &[Field("v", Shape::Version)];
 
 const ENTRIES: &[Field] = &[
     Field("from", MEMBER),
     Field("log", LOG),
     Field("pg", PG),
     Field("stamp", EPOCH),
-    Field("v", FORMAT),
+    Field("v", Shape::Version),
 ];
 
 const INC: &[Field] = &[
@@ -65,7 +65,7 @@ const INC: &[Field] = &[
     Field("temp", TEMP),
     Field("up", DEVICES),
     Field("up_thru", DEVICE_EPOCHS),
-    Field("v", FORMAT),
+    Field("v", Shape::Version),
     Field("weight", DEVICE_WEIGHTS),
 ];
 
@@ -79,25 +79,25 @@ const INFO: &[Field] = &[
     Field("log_tail", VERSION),
     Field("pg", PG),
     Field("stamp", EPOCH),
-    Field("v", FORMAT),
+    Field("v", Shape::Version),
 ];
 
 const LOCATE: &[Field] = &[
     Field("name", Shape::Name),
     Field("pool", POOL),
-    Field("v", FORMAT),
+    Field("v", Shape::Version),
 ];
 
 const PLAIN_TRACE: &[Field] = &[
     Field("code", CODE),
     Field("epochs", PLAIN_EPOCHS),
-    Field("v", FORMAT),
+    Field("v", Shape::Version),
 ];
 
 const PLACED_TRACE: &[Field] = &[
     Field("code", CODE),
     Field("epochs", PLACED_EPOCHS),
-    Field("v", FORMAT),
+    Field("v", Shape::Version),
 ];
 
 /// What the value at a key of a line has to be, where the line names an operation that has the key.
@@ -144,14 +144,22 @@ fn code_kind(line: &Value) -> Option<&str> {
     line.get("code")?.get("kind")?.as_str()
 }
 
-/// The version in which a line is read: the second where it names none that there is.
-pub(crate) fn format_of(line: &Value) -> Format {
-    let Some(v) = line.get("v") else {
-        return Format::One;
+/// The version in which a line is read, where lines up to `last` are read: the last where it names none of these.
+pub(crate) fn versions_of(line: &Value, last: Format) -> Versions {
+    let read_as = match line.get("v") {
+        Some(v) => named_by(v, last).unwrap_or(last),
+        None => Format::One,
     };
-    if v.as_u64() == Some(1) {
-        Format::One
-    } else {
-        Format::Two
-    }
+    Versions { read_as, last }
+}
+
+/// The version that a line names, where it is one that is read.
+fn named_by(v: &Value, last: Format) -> Option<Format> {
+    let format = match v.as_u64()? {
+        1 => Format::One,
+        2 => Format::Two,
+        3 => Format::Three,
+        _ => return None,
+    };
+    (format.number() <= last.number()).then_some(format)
 }

@@ -123,9 +123,3 @@ pub(crate) const ITEM: Shape = Shape::Number(Range {
     low: -65536,
     high: 65535,
 });
-
-pub(crate) const FORMAT: Shape = Shape::Number(Range {
-    noun: "a version of the format",
-    low: 1,
-    high: 2,
-});

@@ -4,9 +4,9 @@ use super::numbers::{
     BUCKET_ID, BUCKET_TYPE, CODE_SHARDS, DEVICE, EPOCH, GROUP_COUNT, GROUP_SIZE, ITEM, LEAST,
     LEAST_SIZE, PLACE, POOL, SHARDS, SIZE, SLOT, WEIGHT,
 };
-use super::shape::{Field, Fields, Format, Kind, Rule, Shape};
+use super::shape::{Field, Fields, Kind, Rule, Shape};
 use pgp_ids::{MAX_OSDS, MAX_PARTS};
-use pgp_text::MAX_EPOCHS;
+use pgp_text::{Format, MAX_EPOCHS};
 
 const SLOTS: Shape = Shape::ListWithin {
     item: &SLOT,
@@ -22,9 +22,7 @@ const PARTS: Shape = Shape::ListWithin {
     high: MAX_PARTS,
 };
 
-const KIND_WORDS: &[&str] = &["replicated", "erasure", "grouped"];
-
-const KIND: Shape = Shape::Word(KIND_WORDS);
+const KIND: Shape = Shape::Word(&["replicated", "erasure", "grouped"]);
 
 const REPLICATED_POOL: Kind = Kind {
     word: "replicated",
@@ -81,7 +79,6 @@ const GROUPED_POOL: Kind = Kind {
 
 const POOL_OBJECT: Shape = Shape::Kinds {
     key: "kind",
-    words: KIND_WORDS,
     kinds: &[REPLICATED_POOL, ERASURE_POOL, GROUPED_POOL],
 };
 
@@ -91,9 +88,7 @@ const ITEMS: Shape = Shape::List(&ITEM);
 
 const WEIGHTS: Shape = Shape::List(&WEIGHT);
 
-const ALG_WORDS: &[&str] = &["uniform", "list"];
-
-const ALG: Shape = Shape::Word(ALG_WORDS);
+const ALG: Shape = Shape::Word(&["uniform", "list", "straw2"]);
 
 const UNIFORM_BUCKET: Kind = Kind {
     word: "uniform",
@@ -110,26 +105,37 @@ const UNIFORM_BUCKET: Kind = Kind {
     },
 };
 
+const WEIGHED_BUCKET: &[Field] = &[
+    Field("alg", ALG),
+    Field("id", BUCKET_ID),
+    Field("items", ITEMS),
+    Field("type", BUCKET_TYPE),
+    Field("weights", WEIGHTS),
+];
+
 const LIST_BUCKET: Kind = Kind {
     word: "list",
     since: Format::One,
     fields: Fields {
         noun: "a list bucket",
-        keys: &[
-            Field("alg", ALG),
-            Field("id", BUCKET_ID),
-            Field("items", ITEMS),
-            Field("type", BUCKET_TYPE),
-            Field("weights", WEIGHTS),
-        ],
+        keys: WEIGHED_BUCKET,
+        rule: Rule::WeightPerItem,
+    },
+};
+
+const STRAW2_BUCKET: Kind = Kind {
+    word: "straw2",
+    since: Format::Three,
+    fields: Fields {
+        noun: "a straw2 bucket",
+        keys: WEIGHED_BUCKET,
         rule: Rule::WeightPerItem,
     },
 };
 
 const BUCKET: Shape = Shape::Kinds {
     key: "alg",
-    words: ALG_WORDS,
-    kinds: &[UNIFORM_BUCKET, LIST_BUCKET],
+    kinds: &[UNIFORM_BUCKET, LIST_BUCKET, STRAW2_BUCKET],
 };
 
 pub(crate) const CRUSH: Shape = Shape::List(&BUCKET);
@@ -166,7 +172,6 @@ const GROUPED_CODE: Kind = Kind {
 
 pub(crate) const CODE: Shape = Shape::Kinds {
     key: "kind",
-    words: KIND_WORDS,
     kinds: &[REPLICATED_CODE, ERASURE_CODE, GROUPED_CODE],
 };
 

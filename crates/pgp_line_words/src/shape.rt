@@ -1,10 +1,12 @@
 //! What the values of a line have to be.
 
-/// A version of the format, which a line names at `v`.
+use pgp_text::Format;
+
+/// The version in which a line is read, and the last in which lines are read.
 #[derive(Clone, Copy)]
-pub(crate) enum Format {
-    One,
-    Two,
+pub(crate) struct Versions {
+    pub(crate) read_as: Format,
+    pub(crate) last: Format,
 }
 
 /// The whole numbers from `low` to `high`, and what such a number is.
@@ -23,6 +25,8 @@ pub(crate) enum Shape {
     Number(Range),
     /// A whole number of a range, or null.
     NumberOrNull(Range),
+    /// The number of a version in which lines are read.
+    Version,
     /// `true` or `false`.
     Flag,
     /// The name of an object, 1 to 255 bytes.
@@ -44,7 +48,6 @@ pub(crate) enum Shape {
     /// An object whose word at `key` says of which kind it is.
     Kinds {
         key: &'static str,
-        words: &'static [&'static str],
         kinds: &'static [Kind],
     },
 }

@@ -2,46 +2,48 @@
 
 use super::rules::rule_fault;
 use super::scalars::{flag_fault, name_fault, not_one, number_fault, place_fault, word_fault};
-use super::shape::{Field, Fields, Format, Kind, Shape};
+use super::shape::{Field, Fields, Kind, Range, Shape, Versions};
 use super::wrong::{Finding, Wrong, at_key, count_words, key_words};
+use pgp_text::Format;
 use serde_json::{Map, Value};
 use std::alloc::Global;
 
 /// What is wrong with a value that has to be of this shape, in a line of this version.
 #[cycle(walk)]
-pub(crate) fn fault_in(alloc: Global, format: Format, shape: Shape, value: &Value) -> Finding {
+pub(crate) fn fault_in(alloc: Global, versions: Versions, shape: Shape, value: &Value) -> Finding {
     match shape {
         Shape::Number(range) => number_fault(alloc, range, value),
         Shape::NumberOrNull(range) => place_fault(alloc, range, value),
+        Shape::Version => number_fault(alloc, versions_up_to(versions.last), value),
         Shape::Flag => flag_fault(alloc, value),
         Shape::Name => name_fault(alloc, value),
         Shape::Word(words) => word_fault(alloc, words, value),
-        Shape::Fixed(shapes) => fixed_fault(alloc, format, shapes, value),
-        Shape::List(item) => items_fault(alloc, format, *item, value),
+        Shape::Fixed(shapes) => fixed_fault(alloc, versions, shapes, value),
+        Shape::List(item) => items_fault(alloc, versions, *item, value),
         Shape::ListWithin { item, low, high } => {
             if let Some(wrong) = length_fault(alloc, low, high, value)? {
                 return Ok(Some(wrong));
             }
-            items_fault(alloc, format, *item, value)
+            items_fault(alloc, versions, *item, value)
         }
-        Shape::Object(fields) => object_fault(alloc, format, fields, value),
-        Shape::Kinds { key, words, kinds } => {
-            if let Some(wrong) = kind_fault(alloc, key, words, value)? {
+        Shape::Object(fields) => object_fault(alloc, versions, fields, value),
+        Shape::Kinds { key, kinds } => {
+            if let Some(wrong) = kind_fault(alloc, versions.last, key, kinds, value)? {
                 return Ok(Some(wrong));
             }
-            kinds_fault(alloc, format, key, kinds, value)
+            kinds_fault(alloc, versions, key, kinds, value)
         }
     }
 }
 
 /// A list of items of this shape.
 #[cycle(walk)]
-fn items_fault(alloc: Global, format: Format, shape: Shape, value: &Value) -> Finding {
+fn items_fault(alloc: Global, versions: Versions, shape: Shape, value: &Value) -> Finding {
     let Some(items) = value.as_array() else {
         return not_one(alloc, value, "a list");
     };
     for (index, item) in items.iter().enumerate() {
-        if let Some(wrong) = fault_in(alloc, format, shape, item)? {
+        if let Some(wrong) = fault_in(alloc, versions, shape, item)? {
             return wrong.in_item(alloc, index);
         }
     }
@@ -50,7 +52,7 @@ fn items_fault(alloc: Global, format: Format, shape: Shape, value: &Value) -> Fi
 
 /// A list of as many items as shapes.
 #[cycle(walk)]
-fn fixed_fault(alloc: Global, format: Format, shapes: &[Shape], value: &Value) -> Finding {
+fn fixed_fault(alloc: Global, versions: Versions, shapes: &[Shape], value: &Value) -> Finding {
     let Some(items) = value.as_array() else {
         return not_one(alloc, value, "a list");
     };
@@ -60,7 +62,7 @@ fn fixed_fault(alloc: Global, format: Format, shapes: &[Shape], value: &Value) -
     }
     for (index, shape) in shapes.iter().enumerate() {
         if let Some(item) = items.get(index) {
-            if let Some(wrong) = fault_in(alloc, format, *shape, item)? {
+            if let Some(wrong) = fault_in(alloc, versions, *shape, item)? {
                 return wrong.in_item(alloc, index);
             }
         }
@@ -70,13 +72,19 @@ fn fixed_fault(alloc: Global, format: Format, shapes: &[Shape], value: &Value) -
 
 /// An object of the kind that its word at `key` names.
 #[cycle(walk)]
-fn kinds_fault(alloc: Global, format: Format, key: &str, kinds: &[Kind], value: &Value) -> Finding {
+fn kinds_fault(
+    alloc: Global,
+    versions: Versions,
+    key: &str,
+    kinds: &[Kind],
+    value: &Value,
+) -> Finding {
     for kind in kinds {
         if has_word(value, key, kind.word) {
-            if !has_kind(format, kind.since) {
-                return later_kind(alloc, key, kind.word);
+            if !is_there(kind, versions.read_as) {
+                return later_kind(alloc, key, kind);
             }
-            return object_fault(alloc, format, kind.fields, value);
+            return object_fault(alloc, versions, kind.fields, value);
         }
     }
     Ok(None)
@@ -84,14 +92,14 @@ fn kinds_fault(alloc: Global, format: Format, key: &str, kinds: &[Kind], value: 
 
 /// An object with all of these keys and no other.
 #[cycle(walk)]
-fn object_fault(alloc: Global, format: Format, fields: Fields, value: &Value) -> Finding {
+fn object_fault(alloc: Global, versions: Versions, fields: Fields, value: &Value) -> Finding {
     let Some(object) = value.as_object() else {
         return not_one(alloc, value, "an object");
     };
     if let Some(wrong) = unknown_fault(alloc, fields.noun, fields.keys, object)? {
         return Ok(Some(wrong));
     }
-    if let Some(wrong) = fields_fault(alloc, format, fields.keys, value)? {
+    if let Some(wrong) = fields_fault(alloc, versions, fields.keys, value)? {
         return Ok(Some(wrong));
     }
     rule_fault(alloc, fields.rule, value)
@@ -99,12 +107,12 @@ fn object_fault(alloc: Global, format: Format, fields: Fields, value: &Value) ->
 
 /// An object with all of these keys.
 #[cycle(walk)]
-fn fields_fault(alloc: Global, format: Format, fields: &[Field], value: &Value) -> Finding {
+fn fields_fault(alloc: Global, versions: Versions, fields: &[Field], value: &Value) -> Finding {
     for field in fields {
         let Some(at_key) = value.get(field.0) else {
             return absence(alloc, field.0);
         };
-        if let Some(wrong) = fault_in(alloc, format, field.1, at_key)? {
+        if let Some(wrong) = fault_in(alloc, versions, field.1, at_key)? {
             return wrong.in_key(alloc, field.0);
         }
     }
@@ -143,15 +151,21 @@ fn absence(alloc: Global, key: &str) -> Finding {
     Wrong::here(alloc, what)
 }
 
-/// Of an object that names its kind by one of these words.
-fn kind_fault(alloc: Global, key: &str, words: &[&str], value: &Value) -> Finding {
+/// Of an object that names its kind by the word of one that some version up to `last` has.
+fn kind_fault(alloc: Global, last: Format, key: &str, kinds: &[Kind], value: &Value) -> Finding {
     if !value.is_object() {
         return not_one(alloc, value, "an object");
     }
     let Some(word) = value.get(key) else {
         return absence(alloc, key);
     };
-    at_key(alloc, key, word_fault(alloc, words, word))
+    let mut words = Vec::new(alloc);
+    for kind in kinds {
+        if is_there(kind, last) {
+            words.push(kind.word)?;
+        }
+    }
+    at_key(alloc, key, word_fault(alloc, words.as_slice(), word))
 }
 
 /// Whether an object has this word at a key.
@@ -191,19 +205,24 @@ fn count_fault(alloc: Global, count: usize, len: usize) -> Finding {
     Wrong::here(alloc, what)
 }
 
-/// Whether a line of this version may have what is there since `since`.
-fn has_kind(format: Format, since: Format) -> bool {
-    match since {
-        Format::One => true,
-        Format::Two => match format {
-            Format::One => false,
-            Format::Two => true,
-        },
-    }
+/// Whether a line of this version may have the kind.
+fn is_there(kind: &Kind, format: Format) -> bool {
+    kind.since.number() <= format.number()
 }
 
-/// Of a kind that only the second version has.
-fn later_kind(alloc: Global, key: &str, word: &str) -> Finding {
-    let what = format!(in alloc; "{word:?} needs version 2 of the format")?;
+/// Of a kind that only later versions have.
+fn later_kind(alloc: Global, key: &str, kind: &Kind) -> Finding {
+    let word = kind.word;
+    let since = kind.since.number();
+    let what = format!(in alloc; "{word:?} needs version {since} of the format")?;
     at_key(alloc, key, Wrong::here(alloc, what))
+}
+
+/// The numbers of versions up to the last.
+fn versions_up_to(last: Format) -> Range {
+    Range {
+        noun: "a version of the format",
+        low: 1,
+        high: i64::from(last.number()),
+    }
 }

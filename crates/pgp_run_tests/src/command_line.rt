@@ -23,12 +23,14 @@ const NO_COUNT: Text = Text::Begins(b"error: a value is required for '--");
 /// How the texts begin that refuse a group's name and an offset.
 const WRONG_GROUP: Text = Text::Begins(b"error: PG is POOL.SEED, pool 1 to 255 in decimal, ");
 
+const WRONG_FORMAT: Text = Text::Begins(b"error: --format takes 2 or 3\n");
+
 const WRONG_OFFSET: Text = Text::Begins(
     b"error: --epoch-offset takes a number from 0 to 4294967295\n",
 );
 
 /// The words that the program is given, its status, what it writes, and what it says on standard error.
-static ROWS: [Row; 37] = [
+static ROWS: [Row; 43] = [
     // The subcommands, words that name none, and the version.
     Row(&["pgpeer", "run"], DONE, ANSWERED, NOTHING),
     Row(&["pgpeer", "explain"], DONE, Text::Any, NOTHING),
@@ -170,6 +172,33 @@ static ROWS: [Row; 37] = [
     ),
     Row(&["pgpeer", "run", "--shards"], USAGE, NOTHING, NO_COUNT),
     Row(&["pgpeer", "run", "--workers"], USAGE, NOTHING, NO_COUNT),
+    // Up to which version lines are read: version 2, where nothing is said.
+    Row(&["pgpeer", "run", "--format", "2"], DONE, ANSWERED, NOTHING),
+    Row(&["pgpeer", "run", "--format=03"], DONE, ANSWERED, NOTHING),
+    Row(
+        &["pgpeer", "compact", "--format", "3"],
+        DONE,
+        Text::Is(SCRIPT),
+        Text::Any,
+    ),
+    Row(
+        &["pgpeer", "run", "--format", "1"],
+        USAGE,
+        NOTHING,
+        WRONG_FORMAT,
+    ),
+    Row(
+        &["pgpeer", "explain", "--format", "4"],
+        USAGE,
+        NOTHING,
+        WRONG_FORMAT,
+    ),
+    Row(
+        &["pgpeer", "compact", "--format", "two"],
+        USAGE,
+        NOTHING,
+        WRONG_FORMAT,
+    ),
     // A word that is no group's name, or no offset.
     Row(
         &["pgpeer", "explain", "1", "--json"],

@@ -3,7 +3,7 @@ ghost use Rattle.std.specs.Prelude.{◌≤◌};
 
 use crate::fakes::{NEVER, giver, taken_by, taker};
 use pgp_cli::run_engine;
-use pgp_core::{ScriptFault, run_script};
+use pgp_core::{Format, ScriptFault, run_script};
 use std::alloc::Global;
 use std::sync::Wait;
 use std::thread::Threads;
@@ -64,7 +64,7 @@ pub struct RunEnd {
 pub fn alone(alloc: Global, trial: &Trial) -> RunEnd {
     let mut reader = giver(trial.script, PIECE, trial.good_reads);
     let mut writer = taker(alloc, PIECE, trial.good_writes);
-    let ended = run_script(alloc, &mut reader, &mut writer);
+    let ended = run_script(alloc, Format::Two, &mut reader, &mut writer);
     RunEnd {
         fault: ended.err(),
         bytes: taken_by(writer),
@@ -86,6 +86,7 @@ pub fn over_engine<R: Threads + Wait + Sync>(
     let ended = run_engine(
         rt,
         alloc,
+        Format::Two,
         &mut reader,
         &mut writer,
         size.shards,

@@ -8,7 +8,7 @@
 mod split;
 mod streams;
 
-use pgp_core::run_script;
+use pgp_core::{Format, run_script};
 use split::{first_line, first_script};
 use std::alloc::Global;
 use std::io;
@@ -44,7 +44,12 @@ fn answer(alloc: Global, named: &[u8], taken: &mut AnswerWriter) -> io::Result<(
         named.split_at(0)
     };
     taken.bytes.extend_from_slice(name)?;
-    match run_script(alloc, &mut ScriptReader { left: script }, taken) {
+    match run_script(
+        alloc,
+        Format::Two,
+        &mut ScriptReader { left: script },
+        taken,
+    ) {
         Ok(()) => Ok(()),
         Err(_) => Err(io::Error::from(ErrorKind::Other)),
     }

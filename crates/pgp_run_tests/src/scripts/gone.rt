@@ -2,7 +2,7 @@
 
 use crate::fakes::{NEVER, giver, taken_by, taker};
 use crate::runs::RunEnd;
-use pgp_core::{Answerer, Bounds, NoReply, ScriptFault, answer_script};
+use pgp_core::{Answerer, Bounds, Format, NoReply, ScriptFault, answer_script};
 use pgp_ids::LocateRefusal;
 use pgp_text::{Command, LineRefusal, Reply};
 use std::alloc::Global;
@@ -45,7 +45,14 @@ fn given(alloc: Global, script: &[u8], fails_at: usize) -> RunEnd {
     };
     let mut writer = taker(alloc, 10, fails_at);
     let mut reader = giver(script, 1000, NEVER);
-    let ended = answer_script(alloc, &mut Leaver, &mut reader, &mut writer, bounds);
+    let ended = answer_script(
+        alloc,
+        Format::Two,
+        &mut Leaver,
+        &mut reader,
+        &mut writer,
+        bounds,
+    );
     RunEnd {
         fault: ended.err(),
         bytes: taken_by(writer),

@@ -3,7 +3,7 @@
 use super::run;
 use crate::fakes::{NEVER, giver, taken_by, taker};
 use crate::runs::RunEnd;
-use pgp_core::{ScriptFault, run_script};
+use pgp_core::{Format, ScriptFault, run_script};
 use std::alloc::Global;
 
 /// Three lines with answers, a blank one between them, and no line feed at the end.
@@ -23,7 +23,7 @@ fn given(alloc: Global, step: usize, fails_at: usize) -> RunEnd {
 fn taken(alloc: Global, ends_at: usize, step: usize, fails_at: usize) -> RunEnd {
     let mut reader = giver(SCRIPT, 60, ends_at);
     let mut writer = taker(alloc, step, fails_at);
-    let ended = run_script(alloc, &mut reader, &mut writer);
+    let ended = run_script(alloc, Format::Two, &mut reader, &mut writer);
     RunEnd {
         fault: ended.err(),
         bytes: taken_by(writer),

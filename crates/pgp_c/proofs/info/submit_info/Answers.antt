@@ -9,6 +9,7 @@ pub returns : goal.returns
 returns c =
     record {
       answer = c.submit.ensures.answer;
+      format = c.submit.ensures.format;
       bad = λ no. absurd (no (search rules));
       good = λ is. inr (record {
         takes = subst (λ info. fits c.args.session.now.log (entry.Info info) ≡ None) c.in-Some.ensures.value

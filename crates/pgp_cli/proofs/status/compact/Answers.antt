@@ -14,6 +14,6 @@ returns-in-Err g c =
     (elim (write_or_other c.in-Err.why) [
       | inl write ↦
           let cut = c.compact_script.ensures.write (c.in-Err.is ∙ ap Err write) in
-          inr (inr (record { part = inr (inl cut); failed = cut.failed }))
+          inr (inr (record { part = inr (inl (c.args.options.format, cut)); failed = cut.failed }))
       | inr other ↦ inr (inl (ap g.W.Sink.contents (c.in-Err.ensures.quiet (λ same. let write : c.in-Err.why ≡ Write = cc in other write))))
     ])

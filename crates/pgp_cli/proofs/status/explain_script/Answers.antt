@@ -17,6 +17,6 @@ returns-in-Err g c =
     (elim (write_or_other c.in-Err.why) [
       | inl write ↦
           let cut = c.explain-outcome.ensures.write (c.in-Err.is ∙ ap Err write) in
-          inr (inr (record { part = inl (question options.pg options.json options.epoch_offset, cut.1); failed = cut.0 }))
+          inr (inr (record { part = inl (question options.format options.pg options.json options.epoch_offset, cut.1); failed = cut.0 }))
       | inr other ↦ inr (inl (ap g.W.Sink.contents (c.in-Err.ensures.unwritten other)))
     ])

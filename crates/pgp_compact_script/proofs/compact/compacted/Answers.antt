@@ -14,8 +14,8 @@ use Rattle.pgp_compact_script.proofs.compact.compacted.Goals as goal
 
 pub text_of-requires : goal.text_of-requires
 text_of-requires c =
-    let made : List EntryLine = entry_lines [] (lines_of c.args.script.now) in
-    let read = all-read (lines_of c.args.script.now) c.in_ok-read.read c.in_ok-read.ensures in
+    let made : List EntryLine = entry_lines c.args.format [] (lines_of c.args.script.now) in
+    let read = all-read c.args.format (lines_of c.args.script.now) c.in_ok-read.read c.in_ok-read.ensures in
     let choices : c.in_ok-needed.needed.items ≡ are_needed_in (entries_of made) = c.in_ok-needed.ensures ∙ ap are_needed_in (c.entries.ensures.entries ∙ read.0) in
     ap length (c.as_slice-choices.ensures.value ∙ choices) ∙ are_needed-length (is_needed (entries_of made)) (entries_of made) ∙ length-map made (λ (it : EntryLine). it.entry)
     ∙ sym (ap (λ (l : List (List ℕ)). length l) read.1 ∙ length-map made (λ (it : EntryLine). it.line))
@@ -23,8 +23,8 @@ text_of-requires c =
 
 pub returns-clause-text : goal.returns-clause-text
 returns-clause-text c =
-    let made : List EntryLine = entry_lines [] (lines_of c.args.script.now) in
-    let read = all-read (lines_of c.args.script.now) c.in_ok-read.read c.in_ok-read.ensures in
+    let made : List EntryLine = entry_lines c.args.format [] (lines_of c.args.script.now) in
+    let read = all-read c.args.format (lines_of c.args.script.now) c.in_ok-read.read c.in_ok-read.ensures in
     let choices : c.in_ok-needed.needed.items ≡ are_needed_in (entries_of made) = c.in_ok-needed.ensures ∙ ap are_needed_in (c.entries.ensures.entries ∙ read.0) in
     let lines : map (λ line. line.now) c.as_slice.result.now ≡ bare made = ap (map (λ line. line.now)) c.as_slice.ensures.value ∙ read.1 in
     c.in_ok-text.ensures
@@ -33,8 +33,8 @@ returns-clause-text c =
 
 pub returns-clause-counts : goal.returns-clause-counts
 returns-clause-counts c =
-    let made : List EntryLine = entry_lines [] (lines_of c.args.script.now) in
-    let read = all-read (lines_of c.args.script.now) c.in_ok-read.read c.in_ok-read.ensures in
+    let made : List EntryLine = entry_lines c.args.format [] (lines_of c.args.script.now) in
+    let read = all-read c.args.format (lines_of c.args.script.now) c.in_ok-read.read c.in_ok-read.ensures in
     let choices : c.in_ok-needed.needed.items ≡ are_needed_in (entries_of made) = c.in_ok-needed.ensures ∙ ap are_needed_in (c.entries.ensures.entries ∙ read.0) in record {
       entries = ap (λ (l : List Bool). length l) (c.as_slice-choices.ensures.value ∙ choices) ∙ are_needed-length (is_needed (entries_of made)) (entries_of made) ∙ length-map made (λ (it : EntryLine). it.entry);
       kept = c.count_chosen.ensures ∙ ap (λ (l : List Bool). count_by (λ choice. choice) l) (c.as_slice-choices.ensures.value ∙ choices)

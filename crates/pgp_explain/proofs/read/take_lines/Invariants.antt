@@ -10,7 +10,8 @@ decreases-loop-line l = length l.rest
 
 abbrev pub invariant-loop-line : goal.invariant-loop-line
 invariant-loop-line l = record {
-  log : log_of_lines (lines_of l.fn.script) ≡ l.log ++ entries_of (entry_lines l.log (lines_of l.rest));
-  later : HasRefused l.log (lines_of l.rest) → HasRefused [] (lines_of l.fn.script);
-  told : (string_bytes l.faults ≡ []) ⊎ HasRefused [] (lines_of l.fn.script);
+  format : l.reader.format ≡ l.fn.format;
+  log : log_of_lines l.fn.format (lines_of l.fn.script) ≡ l.log ++ entries_of (entry_lines l.fn.format l.log (lines_of l.rest));
+  later : HasRefused l.fn.format l.log (lines_of l.rest) → HasRefused l.fn.format [] (lines_of l.fn.script);
+  told : (string_bytes l.faults ≡ []) ⊎ HasRefused l.fn.format [] (lines_of l.fn.script);
 }

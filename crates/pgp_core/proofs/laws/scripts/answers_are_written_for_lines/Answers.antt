@@ -5,4 +5,4 @@ pub returns-clause-written : goal.returns-clause-written
 returns-clause-written c = answers-written
 
 pub returns-clause-answers : goal.returns-clause-answers
-returns-clause-answers c before after lines out all = rw (all.log, all.text) (written-answers before all.met lines all.each all.may)
+returns-clause-answers c format before after lines out all = rw (all.log, all.text) (written-answers format before all.met lines all.each all.may)

@@ -12,7 +12,7 @@ returns-then-self-clause-left g c none line holds = c.answer_kept.ensures.left n
 pub returns-then-all_blank-clause-put : goal.returns-then-all_blank-clause-put
 returns-then-all_blank-clause-put g c line holds =
     rw (is-empty line (sym holds.started ∙ c.if-self.false))
-    (puts-blank g.A.Answerer.alone _ c.args.text.now.items c.args.piece.now (sym c.all_blank.ensures ∙ c.if-all_blank.true))
+    (puts-blank g.A.Answerer.alone _ _ c.args.text.now.items c.args.piece.now (sym c.all_blank.ensures ∙ c.if-all_blank.true))
 
 pub returns-clause-put : goal.returns-clause-put
 returns-clause-put g c =

@@ -9,22 +9,22 @@ none_there None never = refl
 none_there (Some x) never = absurd (never x refl)
 
 pub returns-clause-ok : goal.returns-clause-ok
-returns-clause-ok g c line holds start lines so_far =
+returns-clause-ok g c line holds start lines same so_far =
     went-on g.A.Answerer.alone start _ _ _ _ _ _
-    (told-line g.A.Answerer.alone start _ _ lines (line ++ c.args.piece.now) _ _ _ _ so_far (c.in-Some.ensures.put line holds)) c.in_ok-put.ensures.ok
+    (told-line g.A.Answerer.alone start _ _ _ lines (line ++ c.args.piece.now) _ _ _ _ same so_far (c.in-Some.ensures.put line holds)) c.in_ok-put.ensures.ok
 
 pub returns-in_err-put-clause-err : goal.returns-in_err-put-clause-err
 returns-in_err-put-clause-err g c =
     passed_on _ _ _ _ c.from_residual-in_err-put.ensures.1
-    (λ line holds start lines others so_far.
+    (λ line holds start lines others same so_far.
     let all = line ++ c.args.piece.now in
-    let told = told-line g.A.Answerer.alone start _ _ lines all _ _ _ _ so_far (c.in-Some.ensures.put line holds) in (
+    let told = told-line g.A.Answerer.alone start _ _ _ lines all _ _ _ _ same so_far (c.in-Some.ensures.put line holds) in (
       λ read. cc,
       subst (IsStopped g.A.Answerer.alone start Write _) (append_assoc lines (all ∷ []) others) (cut_off g.A.Answerer.alone start (lines ++ all ∷ []) others _ _ _ _ told c.in_err-put.ensures.err),
     ))
 
 pub returns-in_err-close-clause-err : goal.returns-in_err-close-clause-err
 returns-in_err-close-clause-err g c =
-    let same = c.answer-answer.ensures.text (none_there _ c.in_default.not-Some) in
+    let kept = c.answer-answer.ensures.text (none_there _ c.in_default.not-Some) in
     passed_on _ _ _ _ c.from_residual.ensures.1
-    (λ line holds start lines others so_far. (λ read. cc, cut_off g.A.Answerer.alone start lines _ _ _ _ _ so_far (rw same at c.in_err-close.ensures.err)))
+    (λ line holds start lines others same so_far. (λ read. cc, cut_off g.A.Answerer.alone start lines _ _ _ _ _ so_far (rw kept at c.in_err-close.ensures.err)))
