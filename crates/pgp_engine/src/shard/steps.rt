@@ -170,6 +170,7 @@ impl<J: Naming> Shard<J> {
         ensures wants { result ≡ Err Memory → HasInc self.new.front }
     {
         let at = self.front.again();
+        self.worked_out = false;
         match self.state.ask(pg) {
             Ok(view) => Ok(Answer { view, at }),
             Err(AskRefusal::UnknownGroup) => Err(AskFault::UnknownGroup { at }),
