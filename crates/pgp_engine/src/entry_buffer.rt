@@ -5,7 +5,7 @@ ghost use Rattle.pgp_ids.specs.declared.entry.Entry.{Entry as AnyEntry};
 ghost use Rattle.pgp_log.specs.Log.{IsFrontOf};
 ghost use Rattle.pgp_feed.specs.Receipts.{entries_of, feed_of, Holds};
 ghost use Rattle.pgp_feed.specs.Taps.{last_of};
-ghost use Rattle.pgp_engine.specs.Followers.{HasTakenFront, HasTakenMore};
+ghost use Rattle.pgp_engine.specs.Followers.{HasTakenFewer, HasTakenFront, HasTakenMore};
 ghost use Rattle.pgp_engine.specs.declared.entry_buffer.TheConstants.{KEPT_PLACES};
 
 use crate::follower::{Follower, take_all};
@@ -42,7 +42,7 @@ impl EntryBuffer {
         }
     }
 
-    /// Has the follower take what it lacks of a front. After a fault it may have taken some of that.
+    /// Has the follower take what it lacks of a front. After a fault it has taken some of that, and not all.
     pub fn bring<F: Follower>(
         &mut self,
         follower: &mut F,
@@ -55,6 +55,7 @@ impl EntryBuffer {
         ensures within { HasTakenFront F.has_taken (entries_of front.now) follower.new }
         ensures more { (taken : List AnyEntry) → F.has_taken taken follower.old → IsFrontOf taken (entries_of front.now)
             → HasTakenMore F.has_taken taken (entries_of front.now) follower.new }
+        ensures fewer { OnErr result (HasTakenFewer F.has_taken (entries_of front.now) follower.new) }
         ensures same { F.numbers follower.new ≡ F.numbers follower.old }
         ensures idle { F.has_taken (entries_of front.now) follower.old → follower.new ≡ follower.old }
         ensures later { Holds (last_of tap.new) (last_of tap.old) }

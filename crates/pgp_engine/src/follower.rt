@@ -4,7 +4,7 @@ ghost use Rattle.std.specs.Arc.{arc_value};
 ghost use Rattle.pgp_ids.specs.declared.entry.Entry.{Entry as AnyEntry};
 ghost use Rattle.pgp_log.specs.Fits.{fits};
 ghost use Rattle.pgp_log.specs.Log.{is_legal};
-ghost use Rattle.pgp_engine.specs.Followers.{CanTakeAll, CanTakeNext, HasTakenMore};
+ghost use Rattle.pgp_engine.specs.Followers.{CanTakeAll, CanTakeNext, HasTakenFewer, HasTakenMore};
 
 use pgp_ids::Entry;
 use std::alloc::AllocError;
@@ -41,6 +41,8 @@ pub(crate) fn take_all<F: Follower>(
         → F.has_taken (log ++ map arc_value entries.now) follower.new) }
     ensures more { (log : List AnyEntry) → F.has_taken log follower.old → is_legal (log ++ map arc_value entries.now) ≡ true
         → HasTakenMore F.has_taken log (log ++ map arc_value entries.now) follower.new }
+    ensures fewer { OnErr result ((log : List AnyEntry) → F.has_taken log follower.old → is_legal (log ++ map arc_value entries.now) ≡ true
+        → HasTakenFewer F.has_taken (log ++ map arc_value entries.now) follower.new) }
     ensures same { F.numbers follower.new ≡ F.numbers follower.old }
 {
     for entry in entries {

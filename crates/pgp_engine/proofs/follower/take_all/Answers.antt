@@ -2,8 +2,8 @@ use Rattle.std.proofs.Common.{◌++◌, List, map, take, refl, sym, ◌∙◌, s
 use Rattle.std.proofs.lemmas.List.{take_all}
 use Rattle.std.specs.Arc.{arc_value}
 use Rattle.pgp_ids.specs.declared.entry.Entry.{Entry}
-use Rattle.pgp_log.proofs.SharedLemmas.{next-after, next-of-legal}
-use Rattle.pgp_engine.proofs.FollowerLemmas.{more-of-part}
+use Rattle.pgp_log.proofs.SharedLemmas.{next-after, next-of-legal, on_err}
+use Rattle.pgp_engine.proofs.FollowerLemmas.{fewer-of-part, more-of-part}
 use Rattle.pgp_engine.proofs.follower.take_all.Goals as goal
 
 pub take_next-requires : goal.take_next-requires
@@ -35,6 +35,11 @@ pub returns-in_err-take_next-clause-more : goal.returns-in_err-take_next-clause-
 returns-in_err-take_next-clause-more g c log is legal =
     more-of-part _ log arc_value c.args.entries.now c.loop-entry.entry-index _
     (c.in_err-take_next.ensures.err _ (c.loop-entry.invariant.taken log is legal))
+
+pub returns-in_err-take_next-clause-fewer : goal.returns-in_err-take_next-clause-fewer
+returns-in_err-take_next-clause-fewer g c = on_err c.from_residual.result _ (λ log is legal.
+    fewer-of-part _ log arc_value c.args.entries.now c.loop-entry.entry-index _ c.loop-entry-test.true
+    (c.in_err-take_next.ensures.err _ (c.loop-entry.invariant.taken log is legal)))
 
 pub returns-clause-whole : goal.returns-clause-whole
 returns-clause-whole g c log is legal =

@@ -3,7 +3,7 @@ use Rattle.pgp_log.specs.Log.{is_legal}
 use Rattle.pgp_log.proofs.SharedLemmas.{on_err}
 use Rattle.pgp_feed.specs.Receipts.{entries_of}
 use Rattle.pgp_engine.proofs.FrontLemmas.{filled}
-use Rattle.pgp_engine.proofs.FollowerLemmas.{filled-more, filled-whole, none-more, taken-count, taken-whole}
+use Rattle.pgp_engine.proofs.FollowerLemmas.{filled-fewer, filled-more, filled-whole, none-more, short-fewer, taken-count, taken-whole}
 use Rattle.pgp_engine.proofs.entry_buffer.EntryBuffer.bring.Goals as goal
 
 pub returns-then-taken-len-clause-whole : goal.returns-then-taken-len-clause-whole
@@ -34,6 +34,12 @@ returns-in_err-list-clause-reads g c =
       c.len.ensures.length,
       c.if-taken-len.false,
     ))
+
+pub returns-in_err-list-clause-fewer : goal.returns-in_err-list-clause-fewer
+returns-in_err-list-clause-fewer g c =
+    let here = c.requires.follows in
+    on_err c.from_residual.result _ (short-fewer _ (entries_of c.args.front.now) c.args.follower.now here
+    (omega (arith, c.taken-taken.ensures here.taken here.is, taken-count _ _ _ here, c.len.ensures.length, c.if-taken-len.false)))
 
 pub take_all-requires : goal.take_all-requires
 take_all-requires g c =
@@ -76,3 +82,9 @@ pub returns-in-Err-clause-reads : goal.returns-in-Err-clause-reads
 returns-in-Err-clause-reads g c taken is =
     let here = c.requires.follows in
     omega (arith, c.taken-taken.ensures taken is, c.taken-taken.ensures here.taken here.is, taken-count _ _ _ here, c.len.ensures.length, c.if-taken-len.false)
+
+pub returns-in-Err-clause-fewer : goal.returns-in-Err-clause-fewer
+returns-in-Err-clause-fewer g c =
+    let here = c.requires.follows in
+    filled-fewer _ (entries_of c.args.front.now) c.args.follower.now c.take_all.new.follower c.taken-taken.result _ _ here
+    (c.taken-taken.ensures here.taken here.is) c.as_slice.ensures.value c.in_ok-list.ensures.read c.len.ensures.legal c.in-Err.ensures.fewer
