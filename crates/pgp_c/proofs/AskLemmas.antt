@@ -34,7 +34,7 @@ asks_view (Some was) now pool pg view old new status same h puts done = (
     bad = λ no. let e = h.bad no in cc;
     good = λ is. elim (h.good is) [
       | inl e ↦ rw (is-view (view_in was.log (group pool pg)) view e) (inl (puts, done))
-      | inr e ↦ cc
+      | inr lacks ↦ cc lacks.1
     ];
   },
 )
@@ -48,7 +48,7 @@ asks_none (Some was) now pool pg status old same h = (
     bad = λ no. let e = h.bad no in (refl, cc);
     good = λ is. elim (h.good is) [
       | inl e ↦ let none = is-refusal (view_in was.log (group pool pg)) status e in rw none.0 (inl (refl, none.1))
-      | inr e ↦ inr (record { same = refl; status_is = cc })
+      | inr lacks ↦ inr (record { there = lacks.0; same = refl; status_is = cc lacks.1 })
     ];
   },
 )
@@ -63,7 +63,7 @@ lists_view (Some was) now pool pg view list old new count status same h puts man
     bad = λ no. let e = h.bad no in cc;
     good = λ is. elim (h.good is) [
       | inl e ↦ rw (is-view (view_in was.log (group pool pg)) view e) (inl (puts, many, done))
-      | inr e ↦ cc
+      | inr lacks ↦ cc lacks.1
     ];
   },
 )
@@ -77,7 +77,7 @@ lists_none (Some was) now pool pg status list old same h = (
     bad = λ no. let e = h.bad no in record { room = refl; none = refl; status_is = cc };
     good = λ is. elim (h.good is) [
       | inl e ↦ let none = is-refusal (view_in was.log (group pool pg)) status e in rw none.0 (inl (refl, refl, none.1))
-      | inr e ↦ inr (record { room = refl; none = refl; status_is = cc })
+      | inr lacks ↦ inr (record { there = lacks.0; none = record { room = refl; none = refl; status_is = cc lacks.1 } })
     ];
   },
 )
@@ -92,7 +92,7 @@ objects_view (Some was) now pool pg osd slot view old new count status same h of
     bad = λ no. let e = h.bad (λ is. no is of_member) in cc;
     good = λ is also. elim (h.good is) [
       | inl e ↦ rw (is-view (view_in was.log (group pool pg)) view e) (inl puts)
-      | inr e ↦ cc
+      | inr lacks ↦ cc lacks.1
     ];
   },
 )
@@ -106,7 +106,7 @@ objects_none (Some was) now pool pg osd slot status old same h of_member = (
     bad = λ no. let e = h.bad (λ is. no is of_member) in record { room = refl; none = refl; status_is = cc };
     good = λ is also. elim (h.good is) [
       | inl e ↦ let none = is-refusal (view_in was.log (group pool pg)) status e in rw none.0 (inl (record { room = refl; none = refl; status_is = none.1 }))
-      | inr e ↦ inr (record { room = refl; none = refl; status_is = cc })
+      | inr lacks ↦ inr (record { there = lacks.0; none = record { room = refl; none = refl; status_is = cc lacks.1 } })
     ];
   },
 )

@@ -1,5 +1,5 @@
 -- How a question about a placement group ends. This project's own choice.
-use Rattle.std.specs.Prelude.{◌≡◌, ◌⊎◌, ℕ, ◌≤◌, List, Option, Some, None, Result, Ok, Err}
+use Rattle.std.specs.Prelude.{◌≡◌, ◌⊎◌, ℕ, ◌≤◌, List, true, Option, Some, None, is_some, Result, Ok, Err}
 use Rattle.pgp_ids.specs.declared.entry.Entry.{Entry}
 use Rattle.pgp_ids.specs.declared.pg_id.PgId.{PgId}
 use Rattle.pgp_ids.specs.declared.view.View.{View}
@@ -25,15 +25,17 @@ abbrev pub PutsView : Option View → PgpView → PgpView → ℕ → Type 0
 PutsView None old new status = (new ≡ old) × (status ≡ ask_refusal_number UnknownGroup)
 PutsView (Some view) old new status = (new ≡ view_of view) × (status ≡ status_number Done)
 
--- there was no memory for the answer
-pub record FindsNone {C : Type 0} (old new : C) (status : ℕ) : Type 0 where
+-- there was no memory for what the log says of the group, where its map has the group
+pub record FindsNone (view : Option View) (old new : PgpView) (status : ℕ) : Type 0 where
+  pub there : is_some view ≡ true
   pub same : new ≡ old
   pub status_is : status ≡ status_number NoMemory
 
 -- The question was answered by the log.
 pub record AsksIn (log : List Entry) (pool pg : ℕ) (old new : PgpView) (status : ℕ) : Type 0 where
   pub bad : (IsGroup pool pg → ⊥) → (new ≡ old) × (status ≡ status_number BadArgument)
-  pub good : IsGroup pool pg → PutsView (view_in log (group pool pg)) old new status ⊎ FindsNone old new status
+  pub good : IsGroup pool pg
+      → PutsView (view_in log (group pool pg)) old new status ⊎ FindsNone (view_in log (group pool pg)) old new status
 
 -- The question was answered by a session, where there is one.
 abbrev pub Asks : Option LogAndAnswer → Option LogAndAnswer → ℕ → ℕ → PgpView → PgpView → ℕ → Type 0
@@ -48,7 +50,8 @@ view_or_refusal (Some view) = Ok view
 -- What the log says of the group: the view, or the status that tells why it says nothing.
 pub record AnswersIn (log : List Entry) (pool pg : ℕ) (answer : Result View ℕ) : Type 0 where
   pub bad : (IsGroup pool pg → ⊥) → answer ≡ Err (status_number BadArgument)
-  pub good : IsGroup pool pg → (answer ≡ view_or_refusal (view_in log (group pool pg))) ⊎ (answer ≡ Err (status_number NoMemory))
+  pub good : IsGroup pool pg → (answer ≡ view_or_refusal (view_in log (group pool pg)))
+      ⊎ ((is_some (view_in log (group pool pg)) ≡ true) × (answer ≡ Err (status_number NoMemory)))
 
 -- What a session says of the group, where there is one.
 abbrev pub Answers : Option LogAndAnswer → ℕ → ℕ → Result View ℕ → Type 0

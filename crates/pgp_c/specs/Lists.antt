@@ -1,5 +1,5 @@
 -- The lists of what a log says of a placement group, as C reads them. This project's own choice.
-use Rattle.std.specs.Prelude.{◌≡◌, ◌⊎◌, ℕ, List, length, Option, Some, None, option_map, if◌then◌else◌}
+use Rattle.std.specs.Prelude.{◌≡◌, ◌⊎◌, ℕ, List, length, true, Option, Some, None, is_some, option_map, if◌then◌else◌}
 use Rattle.pgp_ids.specs.declared.entry.Entry.{Entry}
 use Rattle.pgp_ids.specs.declared.member.Member.{Member}
 use Rattle.pgp_ids.specs.declared.past.Past.{Past}
@@ -71,11 +71,17 @@ pub record PutsNone {C : Type 0} (old new : List C) (count status reason : ℕ) 
   pub none : count ≡ 0
   pub status_is : status ≡ reason
 
+-- there was no memory for what the log says of the group, where its map has the group
+pub record FindsNoList {C : Type 0} (view : Option View) (old new : List C) (count status : ℕ) : Type 0 where
+  pub there : is_some view ≡ true
+  pub none : PutsNone old new count status (status_number NoMemory)
+
 -- A list of what the log says of a group was put where C reads it.
 pub record ListsIn {C : Type 0} (log : List Entry) (pool pg : ℕ) (list : View → List C) (old new : List C) (count status : ℕ) : Type 0 where
   pub bad : (IsGroup pool pg → ⊥) → PutsNone old new count status (status_number BadArgument)
   pub good : IsGroup pool pg
-      → PutsList (option_map list (view_in log (group pool pg))) old new count status ⊎ PutsNone old new count status (status_number NoMemory)
+      → PutsList (option_map list (view_in log (group pool pg))) old new count status
+      ⊎ FindsNoList (view_in log (group pool pg)) old new count status
 
 -- A list of what a session says of a group was put where C reads it, where there is a session.
 abbrev pub Lists : {C : Type 0} → Option LogAndAnswer → Option LogAndAnswer → ℕ → ℕ → (View → List C) → List C → List C → ℕ → ℕ → Type 0

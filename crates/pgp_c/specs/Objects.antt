@@ -13,11 +13,11 @@ use Rattle.pgp_ids.specs.declared.ask_refusal.AskRefusal.TheVariants.{UnknownGro
 use Rattle.pgp_core.specs.Session.{LogAndAnswer, view_in}
 use Rattle.pgp_c.specs.Ask.{IsGroup, group}
 use Rattle.pgp_c.specs.Exports.{put_in, put_status}
-use Rattle.pgp_c.specs.Lists.{PutsNone}
+use Rattle.pgp_c.specs.Lists.{FindsNoList, PutsNone}
 use Rattle.pgp_c.specs.Member.{IsMember, member}
 use Rattle.pgp_c.specs.Status.{status_number}
 use Rattle.pgp_c.specs.declared.objects.PgpObject.{PgpObject}
-use Rattle.pgp_c.specs.declared.status.Status.TheVariants.{NoMemory, NotOpen, BadArgument, NoList}
+use Rattle.pgp_c.specs.declared.status.Status.TheVariants.{NotOpen, BadArgument, NoList}
 
 -- the objects that a state says are lacking, where it says them
 abbrev pub lacked : PeerState → Option (List MissingObject)
@@ -57,7 +57,8 @@ PutsLacked (Some view) who old new count status = PutsObjects (objects_of view.m
 pub record ObjectsIn (log : List Entry) (pool pg osd slot : ℕ) (old new : List PgpObject) (count status : ℕ) : Type 0 where
   pub bad : (IsGroup pool pg → IsMember osd slot → ⊥) → PutsNone old new count status (status_number BadArgument)
   pub good : IsGroup pool pg → IsMember osd slot
-      → PutsLacked (view_in log (group pool pg)) (member osd slot) old new count status ⊎ PutsNone old new count status (status_number NoMemory)
+      → PutsLacked (view_in log (group pool pg)) (member osd slot) old new count status
+      ⊎ FindsNoList (view_in log (group pool pg)) old new count status
 
 -- The objects that a member lacks, as a session says, were put where C reads them, where there is a session.
 abbrev pub Objects : Option LogAndAnswer → Option LogAndAnswer → ℕ → ℕ → ℕ → ℕ → List PgpObject → List PgpObject → ℕ → ℕ → Type 0
