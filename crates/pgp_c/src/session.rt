@@ -11,9 +11,9 @@ use pgp_ids::View;
 use std::alloc::Global;
 
 /// What a C program keeps of a session: 16 bytes of its own, filled with zeros before the first call. It reads and writes none
-/// of them. So a session that was never opened, or was closed, has a status, and no call requires an open one.
+/// of them. So a session that was never opened, or was closed, has a status, and no call requires an open one. It isn't `Drop`, so
+/// none is let go that is open.
 #[repr(C)]
-#[derive(Drop)]
 pub struct PgpSession {
     /// Whether there is a session.
     pub is_open: bool,
@@ -28,18 +28,15 @@ impl PgpSession {
         ensures value { option_map (λ box. box.value) result ≡ self.old.held.session }
         ensures closed { self.new.held.session ≡ None }
     {
-        let taken = std::mem::replace(
-            self,
-            PgpSession {
-                is_open: false,
-                held: HeldSession::none(alloc),
-            },
-        );
-        if taken.is_open {
-            Some(taken.held.into_box())
-        } else {
-            None
+        if !self.is_open {
+            return None;
         }
+        let closed = PgpSession {
+            is_open: false,
+            held: HeldSession::none(alloc),
+        };
+        let PgpSession { is_open: _, held } = std::mem::replace(self, closed);
+        Some(held.into_box())
     }
 
     /// What the session says of a group, or the status that says why there is no answer.
@@ -55,14 +52,17 @@ impl PgpSession {
         answer
     }
 
-    /// Puts a session in.
+    /// Puts a session in, where there is none: one that is there would never be freed.
     pub fn put(&mut self, session: Box<Session>)
+        requires { self.old.held.session ≡ None }
         ensures { self.new.held.session ≡ Some session.value }
     {
-        *self = for_any_thread(PgpSession {
+        let opened = for_any_thread(PgpSession {
             is_open: true,
             held: HeldSession::of(session),
         });
+        let PgpSession { is_open: _, held } = std::mem::replace(self, opened);
+        held.end();
     }
 }
 
