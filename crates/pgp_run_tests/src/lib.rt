@@ -26,3 +26,5 @@ mod same;
 mod script;
 #[cfg(test)]
 mod scripts;
+#[cfg(test)]
+mod session;
