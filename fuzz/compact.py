@@ -50,7 +50,7 @@ class Taken:
 
     def __init__(self, known: Optional[model.Model] = None) -> None:
         """Where the whole log is known, what it has found out of the map isn't found out once more."""
-        self.log = model.Model()
+        self.log = model.Model(2 if known is None else known.last)
         if known is not None:
             self.log.maps.placements, self.log.maps.memberships = known.maps.placements, known.maps.memberships
         self.entries: List[compaction.Line] = []
@@ -150,7 +150,7 @@ def question(group: Group) -> bytes:
 def cut(rng: random.Random, script: fuzz.Script) -> Tuple[fuzz.Script, List[Cut]]:
     """The script with questions at its cuts and at its end, and its cuts."""
     at, taken, cuts = places(rng, script), Taken(script.log), []
-    made = fuzz.Script([], [], True)
+    made = fuzz.Script([], [], True, last=script.last)
     for number, (line, answer) in enumerate([*zip(script.lines, script.answers), (b"", None)]):
         groups = some_groups(rng, taken.log) if number in at or number == len(script.lines) else []
         if number in at:
@@ -161,7 +161,7 @@ def cut(rng: random.Random, script: fuzz.Script) -> Tuple[fuzz.Script, List[Cut]
         made.lines.extend([*asked, line])
         made.answers.extend([*map(taken.log.answer, asked), answer])
         if answer is not None and is_taken(answer):
-            entry = lines.read(line).value
+            entry = lines.read(line, script.last).value
             taken.log.submit(entry)
             taken.note(line, entry, answer)
     return made, cuts
@@ -179,7 +179,7 @@ def wanted_after(script: fuzz.Script, it: Cut) -> bytes:
     """The answers to what stays at a cut, with all lines after it."""
     rest = script.answers[it.at :]
     if any(answer is not None and answer.code == LOG_FULL for answer in rest):
-        return fuzz.modelled([*it.kept, *script.lines[it.at :]]).wanted()
+        return fuzz.modelled([*it.kept, *script.lines[it.at :]], script.last).wanted()
     renumbered = b"".join(COUNT.sub(b'"count":%d,' % count, answer) + b"\n" for count, answer in enumerate(it.answers, 1))
     after = fuzz.Script([], rest, True).wanted()
     return renumbered + less(after, it.entries - len(it.kept))
@@ -216,12 +216,14 @@ def try_script(words: List[str], script: fuzz.Script, cuts: List[Cut], seconds: 
 
     def hold(subcommand: str, what: str, given: bytes, wanted: bytes, said: bytes = b"") -> None:
         sums["runs"] += 1
-        expect(fuzz.answered(words, given, seconds, subcommand), what, given, wanted, said)
+        expect(fuzz.answered(words, given, seconds, subcommand, *script.options()), what, given, wanted, said)
 
     def explained(what: str, whole: bytes, less: bytes, *group: str) -> None:
         """Both scripts have to be explained alike."""
         sums.update({"runs": 2, "explanations": 1})
-        first, second = (fuzz.answered([*words, "explain", *group], text, seconds, "--json") for text in (whole, less))
+        first, second = (
+            fuzz.answered(words, text, seconds, "explain", *group, "--json", *script.options()) for text in (whole, less)
+        )
         expect(second, what, less, first.out, second.errors)
         expect(first, what, whole, first.out, first.errors)
 

@@ -185,11 +185,13 @@ def words(program: str) -> bool:
     wrong: List[Tuple[Any, ...]] = [("--nothing",), ("run", "x"), ("walk",), ("run", "--nothing"), (b"\xff",), ("run", b"\xff")]
     wrong += [("run", "--shards", it) for it in ("0", "65", "-1", "1.0", "many", "", "256", "99999999999999999999")]
     wrong += [("run", "--workers", it) for it in ("65", "-1", "0x1", " 1", "320")]
+    wrong += [(it, "--format", n) for it in ("run", "explain", "compact") for n in ("0", "1", "4", "-2", "2.0", "three", "")]
     wrong += [("compact", "x"), ("compact", "--json"), ("compact", "--shards", "1"), ("compact", "--", "x"), ("compact", b"\xff")]
     wrong += [("run", "--shards"), ("run", "--workers"), ("--workers", "1", "run"), ("run", "--workers", "1", "--workers", "1")]
     if any(ended(program, b"", *it).status != 2 or ended(program, b"", *it).out for it in wrong):
         return False
     right = [("--shards", "64", "--workers", "0"), ("--shards=1", "--workers=64"), ("--workers", "+1", "--shards", "064")]
+    right += [("--format", "2"), ("--format=3",), ("--format", "+3", "--workers", "1")]
     if any(ended(program, CLOSE, "run", *it) != End(CLOSED, b"", 0) for it in right):
         return False
     shown = [ended(program, b"", *it) for it in (("--version",), ("--help",), ("run", "--help"), ("compact", "--help"))]

@@ -46,6 +46,7 @@ class Script:
     answers: List[Optional[model.Answer]]
     has_last_feed: bool
     log: Optional[model.Model] = field(default=None, compare=False, repr=False)
+    last: int = 2  # up to which version lines are read
 
     def text(self) -> bytes:
         text = b"\n".join(self.lines)
@@ -53,6 +54,10 @@ class Script:
 
     def wanted(self) -> bytes:
         return b"".join(answer.text.encode() + b"\n" for answer in self.answers if answer is not None)
+
+    def options(self) -> List[str]:
+        """The words that have the program read its lines."""
+        return ["--format", "3"] if self.last == 3 else []
 
 
 # Scripts
@@ -67,8 +72,10 @@ class Writer:
     """Writes a script line by line, and has the model answer each."""
 
     def __init__(self, rng: random.Random, entries: int = 400):
-        self.rng, self.log = rng, model.Model()
+        self.rng, self.log = rng, model.Model(rng.choice((2, 2, 3)))
         self.story = grammar.Story(rng, self.log, entries)
+        if not self.story.is_first_form and self.log.last == 2:
+            self.story.straw2 = 0.02  # lines that are refused then
         self.lines: List[bytes] = []
         self.answers: List[Optional[model.Answer]] = []
 
@@ -77,7 +84,7 @@ class Writer:
         self.answers.append(self.log.answer(line))
 
     def script(self) -> Script:
-        return Script(self.lines, self.answers, self.rng.random() < 0.9, self.log)
+        return Script(self.lines, self.answers, self.rng.random() < 0.9, self.log, self.log.last)
 
 
 def story(rng: random.Random, others: List[bytes]) -> Script:
@@ -117,10 +124,10 @@ def traces(rng: random.Random, others: List[bytes]) -> Script:
     writer = Writer(rng)
     has_versions = rng.random() < 0.65
     for _ in range(200):
-        line = grammar.trace(rng, rng.choice((3, 3, 12, 40)), has_versions)
+        line = grammar.trace(rng, rng.choice((3, 3, 12, 40)), has_versions, writer.log.last)
         writer.put(hostile.hostile(rng, line, others) if rng.random() < 0.3 else grammar.compact(line))
-    writer.put(grammar.compact(grammar.trace(rng, rng.choice((400, 4096)), has_versions)))
-    longest = grammar.trace(rng, 1, has_versions)
+    writer.put(grammar.compact(grammar.trace(rng, rng.choice((400, 4096)), has_versions, writer.log.last)))
+    longest = grammar.trace(rng, 1, has_versions, writer.log.last)
     writer.put(grammar.compact({**longest, "epochs": longest["epochs"] * rng.choice((4095, 4096, 4097))}))
     return writer.script()
 
@@ -144,14 +151,16 @@ def wide(rng: random.Random, others: List[bytes]) -> Script:
     held = [it["id"] for it in hosts]
     racks = [{"id": -2000 - at, "type": 2, "alg": "uniform", "items": held[64 * at : 64 * at + 64]} for at in range(16)]
     weights = [rng.choice((2**28, 2**28 - 1))] * 16
-    root = {"id": -1, "type": 3, "alg": "list", "items": [it["id"] for it in racks], "weights": weights}
+    first: Dict[str, Any] = {"v": 3} if writer.log.last == 3 else {}
+    alg = "straw2" if first else "list"
+    root = {"id": -1, "type": 3, "alg": alg, "items": [it["id"] for it in racks], "weights": weights}
     pools = [{"id": at, "pg_num": 64, "kind": "replicated", "size": 3, "min_size": 2, "leaf": 1} for at in range(1, 255)]
     code: Dict[str, Any] = {"kind": "erasure", "k": 4}
     version: Dict[str, Any] = {}
     if not writer.story.is_first_form:
         code, version = {"kind": "grouped", "groups": [[[0, 1], 1], [[2, 3], 1], [[4, 5], 1]]}, {"v": 2}
     last = {"id": 255, "pg_num": rng.choice((128, 128, 129)), **code, "size": 6, "min_size": 5, "leaf": 2}
-    writer.put(grammar.compact({"op": "inc", "epoch": 1, "up": list(range(4096)), "crush": [root, *racks, *hosts]}))
+    writer.put(grammar.compact({"op": "inc", **first, "epoch": 1, "up": list(range(4096)), "crush": [root, *racks, *hosts]}))
     writer.put(grammar.compact({"op": "inc", **version, "epoch": writer.log.maps.epoch + 1, "pools": [*pools, last]}))
     for _ in range(150):
         writer.put(grammar.compact(writer.story.line()))
@@ -201,12 +210,12 @@ class Run(NamedTuple):
     errors: bytes
 
 
-def answered(words: List[str], text: bytes, seconds: int, subcommand: str = "run") -> Run:
+def answered(words: List[str], text: bytes, seconds: int, *subcommand: str) -> Run:
     with tempfile.TemporaryFile() as stdin:
         stdin.write(text)
         stdin.seek(0)
         try:
-            run = subprocess.run([*words, subcommand], stdin=stdin, capture_output=True, timeout=seconds)
+            run = subprocess.run([*words, *(subcommand or ("run",))], stdin=stdin, capture_output=True, timeout=seconds)
         except subprocess.TimeoutExpired as late:
             return Run(late.stdout or b"", None, late.stderr or b"")
     return Run(run.stdout, run.returncode, run.stderr)
@@ -291,10 +300,11 @@ def fuzz(options: argparse.Namespace, words: List[str], figures: Figures) -> Ite
     number, told = options.first, time.monotonic()
     while figures.sums["lines"] < options.lines and time.monotonic() < end:
         kind, script = script_of(options.seed, number, others, options.kinds)
-        run = answered(words, script.text(), options.seconds)
+        run = answered(words, script.text(), options.seconds, "run", *script.options())
         wrong = complaint(script, run)
         figures.count(kind, script, run, wrong)
         if wrong is not None:
+            wrong = " ".join([*script.options(), wrong])
             keep(pathlib.Path(options.keep), f"{options.seed}-{number}", script, run, wrong)
             yield f"script {options.seed}/{number} ({kind}): {wrong}"
         if options.figures and (time.monotonic() - told > 20 or wrong is not None):
@@ -311,17 +321,17 @@ def write_figures(file: str, figures: Figures) -> None:
 # Reducing
 
 
-def modelled(lines: List[bytes]) -> Script:
-    log = model.Model()
-    return Script(lines, [log.answer(line) for line in lines], True)
+def modelled(lines: List[bytes], last: int = 2) -> Script:
+    log = model.Model(last)
+    return Script(lines, [log.answer(line) for line in lines], True, last=last)
 
 
-def reduced(words: List[str], lines: List[bytes], seconds: int) -> List[bytes]:
+def reduced(words: List[str], lines: List[bytes], seconds: int, last: int = 2) -> List[bytes]:
     """A script of fewer lines that is still answered wrong."""
 
     def is_wrong(part: List[bytes]) -> bool:
-        script = modelled(part)
-        return complaint(script, answered(words, script.text(), seconds)) is not None
+        script = modelled(part, last)
+        return complaint(script, answered(words, script.text(), seconds, "run", *script.options())) is not None
 
     size = len(lines)
     while size > 0:
@@ -338,10 +348,10 @@ def reduced(words: List[str], lines: List[bytes], seconds: int) -> List[bytes]:
 
 def reduce(options: argparse.Namespace, words: List[str]) -> int:
     text = pathlib.Path(options.reduce).read_bytes()
-    lines = reduced(words, text.removesuffix(b"\n").split(b"\n"), options.seconds)
-    script = modelled(lines)
+    lines = reduced(words, text.removesuffix(b"\n").split(b"\n"), options.seconds, options.format)
+    script = modelled(lines, options.format)
     sys.stdout.buffer.write(script.text())
-    print(complaint(script, answered(words, script.text(), options.seconds)) or "nothing is wrong", file=sys.stderr)
+    print(complaint(script, answered(words, script.text(), options.seconds, "run", *script.options())) or "nothing is wrong", file=sys.stderr)
     return 1
 
 
@@ -366,6 +376,7 @@ def main() -> int:
     parser.add_argument("--keep", default=str(HERE / "out"), metavar="FOLDER")
     parser.add_argument("--sum", nargs="+", metavar="FILE")
     parser.add_argument("--reduce", metavar="SCRIPT")
+    parser.add_argument("--format", type=int, choices=(2, 3), default=2, help="of the script that is reduced; .why says which")
     options = parser.parse_args()
     if options.sum:
         print(summed(options.sum).text())

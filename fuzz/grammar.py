@@ -34,8 +34,8 @@ def some(rng: random.Random, items: Any, most: int) -> List[Any]:
 # Trees
 
 
-def tree(rng: random.Random, devices: List[int]) -> List[Dict[str, Any]]:
-    """The buckets of a sound tree over devices, in any order."""
+def tree(rng: random.Random, devices: List[int], straw2: float = 0) -> List[Dict[str, Any]]:
+    """The buckets of a sound tree over devices, in any order; as many of them as `straw2` says are such."""
     ids = rng.sample(range(-65536, 0), 64) if rng.random() < 0.2 else list(range(-64, 0))
     rng.shuffle(ids)
     items, buckets = [*devices], []
@@ -46,20 +46,21 @@ def tree(rng: random.Random, devices: List[int]) -> List[Dict[str, Any]]:
         groups = rng.randint(2, max(2, min(10, len(items) // 2)))
         left = items[: rng.choice((0, 0, 0, 1))]  # items that stand beside buckets of a higher level
         for group in range(groups):
-            buckets.append(bucket(rng, ids.pop(), kind, items[len(left) + group :: groups]))
+            buckets.append(bucket(rng, ids.pop(), kind, items[len(left) + group :: groups], straw2))
         items = left + [it["id"] for it in buckets[-groups:]]
-    buckets.append(bucket(rng, ids.pop(), kind + rng.choice((1, 1, 3)), items))
+    buckets.append(bucket(rng, ids.pop(), kind + rng.choice((1, 1, 3)), items, straw2))
     rng.shuffle(buckets)
     return buckets
 
 
-def bucket(rng: random.Random, name: int, kind: int, items: List[int]) -> Dict[str, Any]:
+def bucket(rng: random.Random, name: int, kind: int, items: List[int], straw2: float = 0) -> Dict[str, Any]:
     if rng.random() < 0.03:
         items = [it for it in items if it < 0]
     made = {"id": name, "type": kind, "alg": "uniform", "items": items}
-    if rng.random() < 0.4:
+    is_straw2 = straw2 > 0 and rng.random() < straw2
+    if is_straw2 or rng.random() < 0.4:
         weights = [FULL] * len(items) if rng.random() < 0.3 else [rng.choice(ITEM_WEIGHTS) for _ in items]
-        made.update(alg="list", weights=weights)
+        made.update(alg="straw2" if is_straw2 else "list", weights=weights)
     return made
 
 
@@ -71,8 +72,8 @@ def deep_tree(rng: random.Random, levels: int) -> List[Dict[str, Any]]:
 # Traces
 
 
-def trace(rng: random.Random, most: int, has_versions: bool = True) -> Dict[str, Any]:
-    """A trace; of a grouped code at times, where lines may have versions."""
+def trace(rng: random.Random, most: int, has_versions: bool = True, last: int = 2) -> Dict[str, Any]:
+    """A trace; of a grouped code at times, where lines may have versions up to the last."""
     code = trace_code(rng, has_versions)
     epochs, now, count = [], None, rng.randint(1, most)
     for epoch in range(1, count + 1):
@@ -80,7 +81,7 @@ def trace(rng: random.Random, most: int, has_versions: bool = True) -> Dict[str,
             now = trace_epoch(rng, now, code["kind"] != "replicated", epoch)
         epochs.append(now)
     line = {"op": "trace", "code": code, "epochs": epochs}
-    return versioned(rng, line) if has_versions else line
+    return versioned(rng, line, last) if has_versions else line
 
 
 def trace_code(rng: random.Random, has_versions: bool) -> Dict[str, Any]:
@@ -90,10 +91,13 @@ def trace_code(rng: random.Random, has_versions: bool) -> Dict[str, Any]:
     return {"kind": "replicated"} if k is None else {"kind": "erasure", "k": k}
 
 
-def versioned(rng: random.Random, line: Dict[str, Any]) -> Dict[str, Any]:
-    """The line with its version, where it needs one; another line has one at times."""
+def versioned(rng: random.Random, line: Dict[str, Any], last: int = 2) -> Dict[str, Any]:
+    """The line with a version up to the last, or what it needs; a line that needs none has one at times."""
     needs_two = any(it.get("kind") == "grouped" for it in (line.get("code", {}), *line.get("pools", ())))
-    version = 2 if needs_two else rng.choice((None, None, None, None, None, 1, 2, 2))
+    if any(it["alg"] == "straw2" for it in line.get("crush", ())):
+        version = 3 if rng.random() < 0.95 else rng.choice((None, 1, 2, 4))
+    else:
+        version = (2 if last == 2 else rng.choice((2, 3))) if needs_two else rng.choice((None, None, None, None, None, 1, 2, last))
     return line if version is None else {"op": line["op"], "v": version, **line}
 
 
@@ -141,12 +145,13 @@ class Story:
         self.plan: List[Dict[str, Any]] = []
         self.asks = rng.choice((0.1, 0.3, 0.6))
         self.is_first_form = rng.random() < 0.35  # no versions, no grouped pools and no clean epochs
+        self.straw2 = 0.4 if log.last == 3 and not self.is_first_form else 0  # of the buckets
         self.is_done = False
 
     def line(self) -> Dict[str, Any]:
         """The next line, as it was meant to be."""
         line = self.plan.pop(0) if self.plan else self.unplanned()
-        return line if self.is_first_form else versioned(self.rng, line)
+        return line if self.is_first_form else versioned(self.rng, line, self.log.last)
 
     def unplanned(self) -> Dict[str, Any]:
         rng = self.rng
@@ -161,7 +166,7 @@ class Story:
         if roll < self.asks + 0.1:
             return self.locate()
         if roll < self.asks + 0.12:
-            return trace(rng, 12, not self.is_first_form)
+            return trace(rng, 12, not self.is_first_form, self.log.last)
         if roll < self.asks + 0.22:
             return self.inc()
         return self.report()
@@ -204,7 +209,7 @@ class Story:
         if self.maps.made and chance(0.06):
             inc["sizes"] = [self.new_size(pool) for pool in some(rng, self.maps.made, 2)]
         if "tree" not in more and (chance(0.03) or self.maps.trees.last(None, now, None) is None and chance(0.9)):
-            inc["crush"] = deep_tree(rng, rng.randint(1, 10)) if chance(0.02) else tree(rng, list(self.devices))
+            inc["crush"] = deep_tree(rng, rng.randint(1, 10)) if chance(0.02) else tree(rng, list(self.devices), self.straw2)
         if chance(0.25):
             inc["temp"] = self.temps(inc.get("pools", []))
         inc.update(more)

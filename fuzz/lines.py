@@ -156,8 +156,15 @@ uniform_bucket = keys(alg=one_of("uniform"), **bucket_parts)
 list_bucket = keys(alg=one_of("list"), weights=list_of(word), **bucket_parts)
 
 
+straw2_bucket = keys(alg=one_of("straw2"), weights=list_of(word), **bucket_parts)
+
+
 def is_bucket(value: Any) -> bool:
     return uniform_bucket(value) or (list_bucket(value) and len(value["weights"]) == len(value["items"]))
+
+
+def is_bucket_of_three(value: Any) -> bool:
+    return is_bucket(value) or (straw2_bucket(value) and len(value["weights"]) == len(value["items"]))
 
 
 def epoch_of(place: Shape) -> Shape:
@@ -209,26 +216,28 @@ OPTIONAL: Dict[str, Dict[str, Shape]] = {
     },
     "info": {"last_epoch_clean": word},
 }
-OF_TWO: Dict[str, Shape] = {"pools": list_of(pool_of_two), "code": is_code_of_two}  # shapes that version 2 has otherwise
+LATER: Dict[int, Dict[str, Shape]] = {  # shapes that a later version has otherwise, from it on
+    2: {"pools": list_of(pool_of_two), "code": is_code_of_two},
+    3: {"crush": list_of(is_bucket_of_three)},
+}
 OPS = tuple(REQUIRED)
 KEYS = {op: {"op", "v", *REQUIRED[op], *OPTIONAL.get(op, {})} for op in OPS}
 
 
-def is_one(value: Any) -> bool:
-    return type(value) is int and value == 1
-
-
-def least_bad(op: str, value: Dict[str, Any]) -> Optional[str]:
+def least_bad(op: str, value: Dict[str, Any], last: int) -> Optional[str]:
     """The least key of an object that is absent though required, or has a value of another shape.
 
-    Where the object says no version it is 1; where it says another than 1 and 2 the other keys are read as in version 2.
+    Where the object says no version it is 1; where it says none up to the last, the other keys are read as in the last.
     """
-    shapes = {**REQUIRED[op], **OPTIONAL.get(op, {}), "v": number(1, 2)}
+    is_version = number(1, last)
+    shapes = {**REQUIRED[op], **OPTIONAL.get(op, {}), "v": is_version}
     if op == "trace":
         is_replicated = isinstance(value.get("code"), dict) and value["code"].get("kind") == "replicated"
         shapes["epochs"] = replicated_epochs if is_replicated else placed_epochs
-    if not is_one(value.get("v", 1)):
-        shapes.update((key, shape) for key, shape in OF_TWO.items() if key in shapes)
+    version = value.get("v", 1)
+    for since, later in LATER.items():
+        if since <= (version if is_version(version) else last):
+            shapes.update((key, shape) for key, shape in later.items() if key in shapes)
     bad = [key for key, shape in shapes.items() if key in value and not shape(value[key])]
     return min(bad + [key for key in REQUIRED[op] if key not in value], default=None)
 
@@ -237,8 +246,8 @@ def is_blank(line: bytes) -> bool:
     return not line.strip(b" \t\r")
 
 
-def read(line: bytes) -> Union[Command, Fault]:
-    """The command that a line is, which isn't blank and has no line feed, or its first fault."""
+def read(line: bytes, last: int = 2) -> Union[Command, Fault]:
+    """The command that a line is, which isn't blank and has no line feed, or its first fault. Lines up to the last version are read."""
     if len(line) > LONGEST:
         return Fault(30, "LineTooLong")
     try:
@@ -251,5 +260,5 @@ def read(line: bytes) -> Union[Command, Fault]:
     unknown = value.keys() - KEYS[op]
     if unknown:
         return Fault(33, "UnknownKey", min(unknown), op)
-    bad = least_bad(op, value)
+    bad = least_bad(op, value, last)
     return Command(op, value) if bad is None else Fault(34, "BadField", bad, op)

@@ -57,7 +57,9 @@ def is_bad_report(report: Dict[str, Any]) -> bool:
 class Model:
     """The log of a script, as far as it was read."""
 
-    def __init__(self) -> None:
+    def __init__(self, last: int = 2) -> None:
+        """Lines up to the last version are read."""
+        self.last = last
         self.count = 0
         self.is_closed = False
         self.maps = maps.Maps()
@@ -69,7 +71,7 @@ class Model:
         """The answer to the next line, which has no line feed; None where the line is blank."""
         if lines.is_blank(line):
             return None
-        command = lines.read(line)
+        command = lines.read(line, self.last)
         if isinstance(command, lines.Fault):
             key = {} if command.key is None else {"key": command.key}
             return Answer(compact({"code": command.code, **key, "refused": command.name}), command.op, command.code)
@@ -85,6 +87,8 @@ class Model:
             yield "infos of a clean epoch"
         if any(pool["kind"] == "grouped" for pool in value.get("pools", ())):
             yield "incrementals with grouped pools"
+        if any(bucket["alg"] == "straw2" for bucket in value.get("crush", ())):
+            yield "incrementals with straw2 buckets"
         if value["op"] == "trace" and codes.is_grouped(codes.code_of(value["code"])):
             yield "traces of grouped codes"
         if value["op"] == "ask":
@@ -184,7 +188,7 @@ class Model:
 
 
 def main() -> None:
-    model = Model()
+    model = Model(3 if sys.argv[1:] == ["--format", "3"] else 2)
     for line in sys.stdin.buffer:
         answer = model.answer(line.removesuffix(b"\n"))
         if answer is not None:

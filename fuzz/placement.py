@@ -141,6 +141,47 @@ def tree_fault(buckets: List[Bucket]) -> Optional[int]:
     return None
 
 
+# Straw2
+
+
+def log48(y: int) -> int:
+    """The first 48 binary digits of the binary logarithm of y / 2^63, for a y of 64 bits, the highest of which is set."""
+    found = 0
+    for _ in range(48):
+        y, found = y * y >> 63, 2 * found
+        if y >= 1 << 64:
+            y, found = y >> 1, found + 1
+    return found
+
+
+# The tables of Ceph's crush_ln_table.h, by the formulas that most of their entries have.
+PLAIN = {0, 1, 203, 216, 222, 233, 237, 238, 239, 243, 244, 245, 246, *range(248, 256)}
+ODD = {
+    56: 0x0A2B07F3458, 127: 0x16DF6CA19BD, 134: 0x182B07F3458, 181: 0x209C06E6212, 184: 0x212B07F3458, 188: 0x21D6A73A78F,
+    193: 0x22C23679B4E, 198: 0x23A2C3B0EA4, 199: 0x23D13EE805B, 200: 0x24035E9221F, 207: 0x25492644D65, 210: 0x25D13EE805B,
+    212: 0x26296453882, 225: 0x287BDBF5255, 227: 0x28D13EE805B, 228: 0x29035E9221F, 229: 0x29296453882, 231: 0x29902A37AAB,
+    235: 0x2A4C7605D61, 236: 0x2A7BDBF5255, 240: 0x2B296453882, 241: 0x2B5D022D80F, 247: 0x2C61A5E8F4C,
+}  # fmt: skip
+RECIPROCALS = [-(-(1 << 55) // (128 + k)) for k in range(129)]
+COARSE = [*(log48(128 + k << 56) for k in range(128)), 0xFFFF00000000]
+FINE = [ODD.get(i, log48((1 << 15) + i << 48) + (0 if i in PLAIN else 0x147700000)) for i in range(256)]
+
+
+@functools.lru_cache(maxsize=None)
+def logarithm(hashed: int) -> int:
+    """2^44 times the binary logarithm of a hash of 16 bits and one, about."""
+    scaled, power = hashed + 1, 15
+    while scaled < 1 << 15:
+        scaled, power = 2 * scaled, power - 1
+    k = (scaled >> 8) - 128
+    return (power << 44) + (COARSE[k] + FINE[(scaled * RECIPROCALS[k] >> 48) & 255] >> 4)
+
+
+def draw(x: int, r: int, item: int, weight: int) -> int:
+    """What an item draws: the least is chosen."""
+    return ((1 << 48) - logarithm(hash3(x, item & WORD, r) & 0xFFFF)) // weight if weight else 1 << 63
+
+
 # Placement
 
 EARLY, EMPTY = "early", "empty"  # the two descents that find nothing
@@ -148,6 +189,9 @@ EARLY, EMPTY = "early", "empty"  # the two descents that find nothing
 
 def choice(bucket: Bucket, x: int, r: int) -> int:
     """The item that a bucket chooses. It has one."""
+    if bucket.alg == "straw2":
+        draws = [draw(x, r, item, weight) for item, weight in zip(bucket.items, bucket.weights)]
+        return bucket.items[draws.index(min(draws))]
     if bucket.alg == "list":
         sums = list(itertools.accumulate(bucket.weights))
         for at in reversed(range(len(bucket.items))):

@@ -186,9 +186,10 @@ def tree_fault(rng: random.Random, inc: Line, maps: Maps, devices: List[int]) ->
         inc["crush"] = [*held, *tops, {"id": -1, "type": 3, "alg": "uniform", "items": [-2000, -2001, -2002, -2003]}]
     elif roll == 3:
         weights = rng.choice(([WORD, 1], [WORD, 0], [2**31, 2**31], [2**31, 2**31 - 1], [WORD, WORD]))
-        inc["crush"] = [{"id": -1, "type": 1, "alg": "list", "items": devices[:2], "weights": weights}]
+        alg = "straw2" if inc.get("v") == 3 else "list"
+        inc["crush"] = [{"id": -1, "type": 1, "alg": alg, "items": devices[:2], "weights": weights}]
     else:
-        inc["crush"] = grammar.tree(rng, devices) if rng.random() < 0.97 else []
+        inc["crush"] = grammar.tree(rng, devices, 0.3 if inc.get("v") == 3 else 0) if rng.random() < 0.97 else []
         for _ in range(rng.choice((1, 1, 2)) if inc["crush"] else 0):
             one_fault(rng, inc["crush"])
 

@@ -112,6 +112,10 @@ enum {
  * at PGP_NO_MEMORY it isn't open. */
 uint32_t pgp_open(pgp_session *session);
 
+/* The same for a session that reads lines up to the version `format`, 2 or 3: pgp_open is for 2. At PGP_BAD_ARGUMENT the session
+ * isn't open. */
+uint32_t pgp_open_format(pgp_session *session, uint32_t format);
+
 /* Ends a session and frees all that it has: PGP_DONE, or PGP_NOT_OPEN. It may be opened again. */
 uint32_t pgp_close(pgp_session *session);
 

@@ -25,6 +25,8 @@ MAX_LINES = 1_000_000
 MOST_SECONDS = 120  # that a case takes
 CLOSE = b'{"op":"close"}\n'
 CLOSED = b'{"count":1,"epoch":0,"ok":"close"}\n'
+CLOSE_OF_3 = b'{"op":"close","v":3}\n'
+BAD_VERSION = b'{"code":34,"key":"v","refused":"BadField"}\n'
 OUTAGE = (ROOT / "examples" / "outage.jsonl").read_bytes()
 COMPACT = (ROOT / "examples" / "compact.jsonl").read_bytes()
 COMPACTED = (ROOT / "examples" / "compact.compacted.jsonl").read_bytes()
@@ -93,6 +95,13 @@ CASES = [
     Case("a word too many", ["run", "now"], 2, errors=None, tells=b"reads standard input: pgpeer run < FILE"),
     Case("too many shards", ["run", "--shards", "65"], 2, errors=None, tells=b"Usage: pgpeer run"),
     Case("no group's name", ["explain", "1"], 2, errors=None, tells=b"Usage: pgpeer explain"),
+    Case("a run of version 3", ["run", "--format", "3"], 0, script=CLOSE_OF_3, output=CLOSED),
+    Case("an explanation of version 3", ["explain", "--format", "3"], 0, script=CLOSE_OF_3, output=None),
+    Case("a compaction of version 3", ["compact", "--format", "3"], 0, script=CLOSE_OF_3, output=CLOSE_OF_3, errors=NONE_LEFT_OUT),
+    Case("a run of version 2", ["run", "--format", "2"], 0, script=CLOSE_OF_3, output=BAD_VERSION),
+    Case("no format", ["run", "--format", "1"], 2, errors=None, tells=b"--format takes 2 or 3"),
+    Case("no format to explain", ["explain", "--format", "4"], 2, errors=None, tells=b"--format takes 2 or 3"),
+    Case("no format to compact", ["compact", "--format", "x"], 2, errors=None, tells=b"--format takes 2 or 3"),
     Case("no offset", ["explain", "--epoch-offset", "-1"], 2, errors=None, tells=b"pgpeer explain"),
     Case("a word too many to explain", ["explain", "1.a", "now"], 2, errors=None, tells=b"pgpeer explain < FILE"),
     Case("a word too many to compact", ["compact", "script.jsonl"], 2, errors=None, tells=READS_INPUT),

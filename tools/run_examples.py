@@ -4,10 +4,10 @@
     tools/run_examples.py [PROGRAM]
 
 PROGRAM is crates/pgpeer/out/pgpeer where none is given. Each script examples/NAME.jsonl is run and its answers compared
-with examples/NAME.answers.jsonl. Where examples/NAME.txt is there, `explain 1.0` has to print just that of the script, and
+with examples/NAME.answers.jsonl, and with `--format 3` where examples/NAME.format3.answers.jsonl is there. Where examples/NAME.txt is there, `explain 1.0` has to print just that of the script, and
 `explain 1.0 --json` what stands in examples/NAME.explain.json; in the same way `explain` and `explain --json` what stands in
 examples/NAME.summary.txt and examples/NAME.summary.json. Where examples/NAME.compacted.jsonl is there, `compact` has to
-write just that of the script, and of itself. Of docs/FORMAT.md each line of JSON that stands indented by four is run as the
+write just that of the script, and of itself; with `--format 3` where it is examples/NAME.format3.compacted.jsonl. Of docs/FORMAT.md each line of JSON that stands indented by four is run as the
 line after examples/first.jsonl, whose map it speaks of: it may be answered neither as no command nor by a fault of its line,
 but where the next indented line is its answer, and then that has to be it. Exits with 1 where an answer differs.
 """
@@ -20,6 +20,7 @@ import sys
 
 ROOT = pathlib.Path(__file__).resolve().parent.parent
 FAULTS_OF_A_LINE = range(30, 35)
+OF_VERSION_3 = ["--format", "3"]
 EXPLANATIONS = {
     ".txt": ["explain", "1.0"],
     ".explain.json": ["explain", "1.0", "--json"],
@@ -41,6 +42,12 @@ def examples():
             yield script, script.with_suffix("").with_suffix(".answers.jsonl")
 
 
+def examples_of_version_3():
+    """Gives each script whose answers with `--format 3` are there, with them."""
+    for wanted in sorted((ROOT / "examples").glob("*.format3.answers.jsonl")):
+        yield wanted.with_name(wanted.name.replace(".format3.answers", "")), wanted
+
+
 def explanations():
     """Gives each explanation beside a script with that script, and with the words that print it."""
     for suffix, words in EXPLANATIONS.items():
@@ -51,10 +58,11 @@ def explanations():
 
 
 def compactions():
-    """Gives each script that is there compacted too, and then each that was compacted, with what `compact` writes of it."""
+    """Gives each script that is there compacted too, and then each that was compacted, with what words write of it."""
     for wanted in sorted((ROOT / "examples").glob("*.compacted.jsonl")):
-        yield wanted.with_name(wanted.name.replace(".compacted", "")), wanted
-        yield wanted, wanted
+        words = ["compact", *(OF_VERSION_3 if ".format3." in wanted.name else [])]
+        yield wanted.with_name(wanted.name.replace(".format3", "").replace(".compacted", "")), wanted, words
+        yield wanted, wanted, words
 
 
 def is_answer(line):
@@ -79,7 +87,7 @@ def wrong_example(program, script, wanted, *words):
         return f"ended with status {end.returncode}: {end.stderr.decode(errors='replace')[-500:].strip()}"
     if found == wanted:
         return None
-    what = "line" if words else "answer"
+    what = "line" if words and words[0] != "run" else "answer"
     for place, pair in enumerate(zip(found, wanted)):
         if pair[0] != pair[1]:
             return f"{what} {place + 1} is {pair[0].decode()} and not {pair[1].decode()}"
@@ -99,12 +107,15 @@ def main(program):
     for script, wanted in examples():
         tried += 1
         wrong.append((script.name, wrong_example(program, script, wanted)))
+    for script, wanted in examples_of_version_3():
+        tried += 1
+        wrong.append((wanted.name, wrong_example(program, script, wanted, "run", *OF_VERSION_3)))
     for wanted, script, words in explanations():
         tried += 1
         wrong.append((wanted.name, wrong_example(program, script, wanted, *words)))
-    for script, wanted in compactions():
+    for script, wanted, words in compactions():
         tried += 1
-        wrong.append((f"{script.name}, compacted", wrong_example(program, script, wanted, "compact")))
+        wrong.append((f"{script.name}, compacted", wrong_example(program, script, wanted, *words)))
     before = (ROOT / "examples" / "first.jsonl").read_bytes()
     for line, wanted in documented():
         tried += 1

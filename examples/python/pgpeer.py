@@ -65,13 +65,13 @@ class Object(ctypes.Structure):
 
 
 class Session:
-    """One log. A session is used by one thread at a time."""
+    """One log, told lines up to a version of the format. A session is used by one thread at a time."""
 
-    def __init__(self, library: str) -> None:
+    def __init__(self, library: str, format: int = 2) -> None:
         self._calls = ctypes.CDLL(library)
         self._kept = _Kept()
         self._room = ctypes.create_string_buffer(4096)
-        self._made(self._calls.pgp_open(ctypes.byref(self._kept)))
+        self._made(self._calls.pgp_open_format(ctypes.byref(self._kept), format))
 
     @staticmethod
     def _made(status: int) -> None:

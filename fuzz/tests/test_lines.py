@@ -10,9 +10,9 @@ sys.path.insert(0, str(pathlib.Path(__file__).resolve().parent.parent))
 import lines  # noqa: E402
 
 
-def fault(line):
+def fault(line, last=2):
     """The code of a line's fault and the key that it names; None where it is a command."""
-    found = lines.read(line)
+    found = lines.read(line, last)
     return (found.code, found.key) if isinstance(found, lines.Fault) else None
 
 
@@ -123,6 +123,26 @@ class Versions(unittest.TestCase):
         for epoch in ("-1", "4294967296", "1.0", "null", '"1"'):
             self.assertEqual(fault((info % epoch).encode()), (34, "last_epoch_clean"), epoch)
         self.assertEqual(fault(b'{"op":"entries","last_epoch_clean":0}'), (33, "last_epoch_clean"))
+
+
+class VersionThree(unittest.TestCase):
+    TREE = '{"op":"inc",%s"epoch":1,"crush":[{"id":-1,"type":1,"alg":"straw2","items":[0,1],"weights":[0,1]}]}'
+
+    def test_it_is_read_on_request_alone(self):
+        close = b'{"op":"close","v":3}'
+        self.assertEqual((fault(close), fault(close, 3)), ((34, "v"), None))
+        self.assertEqual((fault(b'{"op":"close","v":4}', 3), fault(b'{"op":"close","v":2}', 3)), ((34, "v"), None))
+
+    def test_it_alone_has_straw2_buckets(self):
+        tree = (self.TREE % '"v":3,').encode()
+        self.assertEqual((fault(tree), fault(tree, 3)), ((34, "crush"), None))
+        for version in ("", '"v":1,', '"v":2,'):
+            self.assertEqual(fault((self.TREE % version).encode(), 3), (34, "crush"), version)
+        self.assertEqual(fault((self.TREE % '"v":4,').encode(), 3), (34, "v"))
+        self.assertEqual(fault(tree.replace(b"[0,1]}", b"[0]}"), 3), (34, "crush"))
+
+    def test_it_has_no_key_more(self):
+        self.assertEqual(fault(b'{"op":"inc","v":3,"epoch":2,"after":1}', 3), (33, "after"))
 
 
 class Shapes(unittest.TestCase):

@@ -1,5 +1,6 @@
 """Tests of model.py: the examples of the repository and of docs/FORMAT.md."""
 
+import hashlib
 import json
 import pathlib
 import random
@@ -20,9 +21,9 @@ import placement  # noqa: E402
 import run_examples  # noqa: E402
 
 
-def answers(script):
+def answers(script, last=2):
     """The model's answers to a script."""
-    log = model.Model()
+    log = model.Model(last)
     found = [log.answer(line) for line in script.split(b"\n")]
     return [answer.text.encode() for answer in found if answer is not None]
 
@@ -40,6 +41,8 @@ class Examples(unittest.TestCase):
     def test_scripts(self):
         for script, wanted in run_examples.examples():
             self.assertEqual(answers(script.read_bytes()), wanted.read_bytes().splitlines(), script.name)
+        for script, wanted in run_examples.examples_of_version_3():
+            self.assertEqual(answers(script.read_bytes(), 3), wanted.read_bytes().splitlines(), script.name)
 
     def test_stored_scripts(self):
         stored = ROOT / "crates" / "pgp_scripts"
@@ -108,6 +111,29 @@ class Placements(unittest.TestCase):
     def test_a_type_below_which_there_are_devices_alone(self):
         self.assertEqual(self.placed(placement.first_n, 7, lambda osd: placement.FULL, 3), [])
         self.assertEqual(self.placed(placement.indep, 7, lambda osd: placement.FULL, 3), [None] * 3)
+
+
+class Straw2(unittest.TestCase):
+    # What Ceph 16.2.15 answers: input, items, weights, and the choices for r = 0 to 3.
+    CHOICES = [
+        (0, [0, 1, 2], [65536] * 3, [0, 0, 0, 2]),
+        (1, [0, 1, 2], [65536, 131072, 196608], [2, 0, 2, 2]),
+        (12345, [7, 3, 9, 4], [57231, 119208, 238465, 57231], [7, 7, 9, 7]),
+        (77, [-2, -3, -4, -5], [196608, 65536, 65536, 131072], [-2, -3, -3, -2]),
+        (5, [4, 5, 6], [0, 0, 0], [4, 4, 4, 4]),
+        (6, [4, 5, 6], [0, 1, 0], [5, 5, 5, 5]),
+        (42, [-10, -11, -12], [1342177280, 1073741824, 1073676288], [-11, -11, -10, -12]),
+    ]
+
+    def test_choices(self):
+        for x, items, weights, chosen in self.CHOICES:
+            bucket = placement.Bucket(-1, 1, "straw2", items, weights)
+            self.assertEqual([placement.choice(bucket, x, r) for r in range(4)], chosen, x)
+
+    def test_logarithms(self):
+        """Those of Ceph's library, by their digest."""
+        found = b"".join(placement.logarithm(hashed).to_bytes(8, "little") for hashed in range(1 << 16))
+        self.assertEqual(hashlib.sha256(found).hexdigest(), "7e86f34e8fedc36c3b6252e5a6e4fe3fa4e115ed44e16f58f7fed6543aa1bd20")
 
 
 class Incrementals(unittest.TestCase):

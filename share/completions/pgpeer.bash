@@ -2,12 +2,12 @@
 _pgpeer() {
     local word=${COMP_WORDS[COMP_CWORD]} before=${COMP_WORDS[COMP_CWORD - 1]} choices
     case $before in
-        --shards | --workers | --epoch-offset) return ;;
+        --shards | --workers | --epoch-offset | --format) return ;;
     esac
     case ${COMP_WORDS[1]} in
-        run) choices="--shards --workers --help" ;;
-        explain) choices="--json --epoch-offset --help" ;;
-        compact) choices="--help" ;;
+        run) choices="--shards --workers --format --help" ;;
+        explain) choices="--json --epoch-offset --format --help" ;;
+        compact) choices="--format --help" ;;
         help) choices="run explain compact" ;;
         *) choices="run explain compact help --help --version" ;;
     esac

@@ -10,4 +10,5 @@ complete -c pgpeer -n '__fish_seen_subcommand_from run' -x -l shards -d 'how man
 complete -c pgpeer -n '__fish_seen_subcommand_from run' -x -l workers -d 'how many threads read the log, 0 to 64'
 complete -c pgpeer -n '__fish_seen_subcommand_from explain' -l json -d 'write one line of JSON in place of words'
 complete -c pgpeer -n '__fish_seen_subcommand_from explain' -x -l epoch-offset -d 'add a number to each epoch but 0'
+complete -c pgpeer -n '__fish_seen_subcommand_from run explain compact' -x -l format -d 'up to which version lines are read, 2 or 3'
 complete -c pgpeer -n '__fish_seen_subcommand_from help' -a 'run explain compact'

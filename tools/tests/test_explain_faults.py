@@ -177,6 +177,7 @@ LINES = [
     (inc(crush=[bucket(), "root"]), 'BadField: crush[1]: "root" is not an object'),
     (inc(crush=[bucket(alg=ABSENT)]), "BadField: crush[0]: alg is absent"),
     (inc(crush=[bucket(alg="straw2")]), 'BadField: crush[0].alg: "straw2" is not "uniform" or "list"'),
+    (inc(v=3, crush=[bucket(alg="straw2", weights=[1])]), 'BadField: crush[0].alg: "straw2" is not "uniform" or "list"'),
     (inc(crush=[bucket(weights=[1])]), "BadField: crush[0]: weights is no key of a uniform bucket"),
     (inc(crush=[bucket(id=0)]), "BadField: crush[0].id: 0 is not the id of a bucket (-65536 to -1)"),
     (inc(crush=[bucket(type=256)]), "BadField: crush[0].type: 256 is not a type of bucket (0 to 255)"),
@@ -231,6 +232,22 @@ LINES = [
     ({"op": "locate", "pool": 1, "name": "a"}, "UnknownPool (42): unknown pool"),
 ]
 
+# Lines with `--format 3`, and what is told of each.
+LINES_OF_VERSION_3 = [
+    ({"op": "close", "v": 4}, "BadField: v: 4 is not a version of the format (1 to 3)"),
+    (inc(crush=[bucket(alg="straw2", weights=[1])]), 'BadField: crush[0].alg: "straw2" needs version 3 of the format'),
+    (inc(v=2, crush=[bucket(), bucket(alg="straw2")]), 'BadField: crush[1].alg: "straw2" needs version 3 of the format'),
+    (inc(v=3, crush=[bucket(alg="straw")]), 'BadField: crush[0].alg: "straw" is not "uniform", "list" or "straw2"'),
+    (inc(v=3, crush=[bucket(alg="straw2")]), "BadField: crush[0]: weights is absent"),
+    (inc(v=3, crush=[bucket(alg="straw2", weights=[1], hash=0)]), "BadField: crush[0]: hash is no key of a straw2 bucket"),
+    (
+        inc(v=3, crush=[bucket(alg="straw2", items=[0, 1], weights=[1])]),
+        "BadField: crush[0].weights: the list has 1 item in place of 2, one for each of items",
+    ),
+    (inc(v=3, after=0), "UnknownKey: after is no key of inc"),
+    (inc(pools=[grouped([[[0], 1]])]), 'BadField: pools[0].kind: "grouped" needs version 2 of the format'),
+]
+
 # Lines that are judged by those before them, and what is told of all.
 SCRIPT = [
     (inc(up=[0, 1, 2]), None),
@@ -250,10 +267,10 @@ def text_of(line):
     return line if isinstance(line, str) else json.dumps(line)
 
 
-def told_of(lines):
+def told_of(lines, *words):
     """The status of `pgpeer explain` on a script, and what it wrote to standard error."""
     script = "".join(f"{text_of(line)}\n" for line in lines).encode()
-    done = subprocess.run([PROGRAM, "explain"], input=script, stdout=subprocess.DEVNULL, stderr=subprocess.PIPE, check=False)
+    done = subprocess.run([PROGRAM, "explain", *words], input=script, stdout=subprocess.DEVNULL, stderr=subprocess.PIPE, check=False)
     return done.returncode, done.stderr.decode()
 
 
@@ -263,6 +280,12 @@ class Told(unittest.TestCase):
         for line, told in LINES:
             with self.subTest(told=told):
                 self.assertEqual(told_of([line]), (0, f"line 1: {told}\n"))
+
+    def test_each_line_of_version_3_says_so_too(self):
+        for line, told in LINES_OF_VERSION_3:
+            with self.subTest(told=told):
+                self.assertEqual(told_of([line], "--format", "3"), (0, f"line 1: {told}\n"))
+        self.assertEqual(told_of([inc(v=3, crush=[bucket(alg="straw2", weights=[1])])], "--format", "3"), (0, ""))
 
     def test_lines_are_numbered_as_they_stand(self):
         told = "".join(f"line {number}: {what}\n" for number, (_, what) in enumerate(SCRIPT, 1) if what)

@@ -39,7 +39,7 @@ FILES = {
     "share/doc/pgpeer/FORMAT.md": 0o644,
     "share/doc/pgpeer/examples/outage.jsonl": 0o644,
 }
-OPTIONS = {"run": {"--shards", "--workers"}, "explain": {"--json", "--epoch-offset"}, "compact": set()}
+OPTIONS = {"run": {"--shards", "--workers", "--format"}, "explain": {"--json", "--epoch-offset", "--format"}, "compact": {"--format"}}
 SUBCOMMANDS = {*OPTIONS, "help"}
 OPTION = re.compile(r"(?<![\w-])--[a-z][a-z-]*")
 VERBS = ("fetch", "record", "script", "explain", "plan", "what-if", "draw", "report", "map")
@@ -247,7 +247,7 @@ class BashCompletion(unittest.TestCase):
         self.assertEqual(self.completed("fetch", "--from", "", name="pgpeer-ceph"), set())
 
     def test_offers_nothing_for_a_number(self):
-        for words in (("run", "--shards", ""), ("run", "--workers", ""), ("explain", "--epoch-offset", "")):
+        for words in (("run", "--shards", ""), ("run", "--workers", ""), ("explain", "--epoch-offset", ""), ("compact", "--format", "")):
             self.assertEqual(self.completed(*words), set())
 
 

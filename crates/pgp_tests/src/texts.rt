@@ -2,8 +2,8 @@
 //! asked or doesn't come to pass where there is memory.
 
 use pgp_fixtures::text_of;
-use pgp_ids::{AskRefusal, Refusal};
-use pgp_text::{LineReader, LineRefusal, Reply, read_line};
+use pgp_ids::{AskRefusal, Refusal, TextFault};
+use pgp_text::{Format, LineReader, LineRefusal, Reply, read_line};
 use std::alloc::{AllocError, Global};
 use std::test::Fail;
 
@@ -58,12 +58,35 @@ fn is_read(alloc: Global, reader: &mut LineReader, line: &str) -> bool {
 /// too. The longer line is then read once more.
 #[test]
 fn lines_are_read_in_room_that_is_there(rt: HostRuntime) {
-    let mut reader = LineReader::new(rt.alloc());
+    let mut reader = LineReader::new(rt.alloc(), Format::Two);
     let read = is_read(rt.alloc(), &mut reader, LONG) || is_read(rt.alloc(), &mut reader, LONG);
     assert!(rt; read);
     for line in &IN_ROOM {
         assert!(rt; is_read(rt.alloc(), &mut reader, line), "{line}");
     }
+}
+
+/// A line of version 3, which is read on request.
+const OF_VERSION_3: &str =
+    r#"{"op":"inc","v":3,"epoch":1,"crush":[{"id":-1,"type":1,"alg":"straw2","items":[0,1],"weights":[1,2]}]}"#;
+
+#[test]
+fn version_3_is_read_on_request(rt: HostRuntime) -> Result<(), Fail> {
+    let read = LineReader::new(rt.alloc(), Format::Three).read(
+        rt.alloc(),
+        OF_VERSION_3.as_bytes(),
+    )?;
+    let told = format!(in rt.alloc(); "{read:?}")?;
+    assert!(rt;
+        told.contains("alg: Straw2, items: Seq { items: [0, 1] }, weights: Seq { items: [1, 2] }"),
+        "{told}"
+    );
+    let refused = LineReader::new(rt.alloc(), Format::Two).read(
+        rt.alloc(),
+        OF_VERSION_3.as_bytes(),
+    );
+    assert!(rt; matches!(&refused, Err(TextFault::BadField(key)) if key.as_str() == "crush"));
+    Ok(())
 }
 
 /// What is answered to lines with one bad key or several, each answer before its line. It names the least key in byte order.

@@ -237,9 +237,25 @@ static void closed(void) {
     CHECK(MADE(pgp_submit_info(&session, &(pgp_info){.pool = 1})) == PGP_NOT_OPEN);
 }
 
+// Version 3 is read on request alone.
+static void formats(void) {
+    static const char line[] = "{\"op\":\"inc\",\"v\":3,\"epoch\":1,\"crush\":[{\"id\":-1,\"type\":1,\"alg\":\"straw2\",\"items\":[0],\"weights\":[1]}]}";
+    CHECK(pgp_open_format(&session, 1) == PGP_BAD_ARGUMENT && pgp_open_format(&session, 4) == PGP_BAD_ARGUMENT);
+    CHECK(pgp_close(&session) == PGP_NOT_OPEN);
+    CHECK(MADE(pgp_open_format(&session, 2)) == PGP_DONE && pgp_open_format(&session, 1) == PGP_ALREADY_OPEN);
+    tell(line);
+    CHECK(has("\"key\":\"crush\"") && has("\"refused\":\"BadField\""));
+    CHECK(pgp_close(&session) == PGP_DONE);
+    CHECK(MADE(pgp_open_format(&session, 3)) == PGP_DONE);
+    tell(line);
+    CHECK(has("\"ok\":\"inc\""));
+    CHECK(pgp_close(&session) == PGP_DONE);
+}
+
 static void all(void) {
     calls = 0;
     closed();
+    formats();
     CHECK(MADE(pgp_open(&session)) == PGP_DONE);
     outage();
     views();
