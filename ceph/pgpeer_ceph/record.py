@@ -28,6 +28,7 @@ GAP = "rounds of record without an answer"
 TRIMMED = "maps that the monitor didn't give, as after they were trimmed"
 LEAST_SECONDS = 10  # in which a round may begin queries
 AGAIN = 6  # rounds after which a group that stays inactive is queried again
+MOST_NEW = 64  # maps of a round, beyond which the monitor is asked first which it has
 MOST_THINGS = 100  # that are kept of what was lacking, for each cause
 ABOUT = """\
 Keeps in a folder what fetch keeps, and goes on: each new map before the monitors trim it, the groups of which `ceph pg dump` says
@@ -48,7 +49,7 @@ class Record(Fetch):
         self.told: Dict[str, Dict[str, Any]] = {}  # what was kept last of each group
         self.asked: Dict[str, int] = {}  # the rounds in which groups were queried
         self.rounds = 0
-        self.silent_since = ""
+        self.silent_since, self.is_told_large = "", False
         self.maps = FetchedMaps(self.ceph, self.folder, self.notes, self.side_by_side)
         self.last = max(self.folder.epochs(), default=0)
         self.most = bytes_of(options.size)
@@ -127,7 +128,9 @@ class Record(Fetch):
         if self.keep_maps():
             self.fetch_value("df.json", "osd", "df", "tree")
             self.keep_lacking()
-        make_room(self.folder, self.most)
+        if not make_room(self.folder, self.most) and not self.is_told_large:
+            self.is_told_large = True
+            tell(f"{self.folder.path} is larger than --size, and what is left is needed")
 
     # Groups
 
@@ -138,7 +141,7 @@ class Record(Fetch):
         gone = [name for name in self.told if name not in stats]
         if changed or gone:
             told = [stats[name] for name in changed]
-            epoch = max([int(stat.get("reported_epoch") or 0) for stat in told], default=self.last)
+            epoch = max([Node(stat, "pg dump").count_of("reported_epoch") for stat in told], default=self.last)
             if told:
                 self.folder.keep(f"{epoch}-{now()}.pgs.json", {"pg_stats": told})
             self.told = stats
@@ -205,6 +208,8 @@ class Record(Fetch):
     def new_maps(self) -> List[int]:
         last = self.ceph.value("osd", "dump").key("epoch").count()
         wanted = range(self.last + 1, last + 1)
+        if len(wanted) > MOST_NEW:
+            return self.first_maps()
         found = self.side_by_side("maps", self.maps.fetch_map, wanted)
         self.goes_on()
         for epoch, is_there in zip(wanted, found):
@@ -226,6 +231,8 @@ def name_of(stat: Node) -> str:
 def slim(stat: Node) -> Dict[str, Any]:
     """What is kept of a group: what `script` reads."""
     stat.key("state").text()
+    if stat.has("acting_primary"):
+        stat.key("acting_primary").whole()
     return {key: stat.value[key] for key in KEYS if stat.has(key)}
 
 

@@ -6,7 +6,6 @@ from typing import Dict, Iterable, List
 
 from .fetched import Folder
 from .nodes import Unusable
-from .output import tell
 
 UNITS = {"": 1, "K": 1 << 10, "M": 1 << 20, "G": 1 << 30, "T": 1 << 40}
 BY_EPOCH = re.compile(r"([0-9]{1,10})(?:\.(?:osd|crush)\.json|\.groups\.txt|-[0-9TZ]+\.pgs\.json)")
@@ -21,27 +20,27 @@ def bytes_of(words: str) -> int:
     return int(found[1]) * UNITS[found[2]]
 
 
-def make_room(folder: Folder, most: int) -> None:
-    """Removes the oldest epochs until no more bytes are there. The last map, its tree, and what groups said last stay."""
+def make_room(folder: Folder, most: int) -> bool:
+    """Removes the oldest epochs until no more bytes are there; tells whether it is so. The last map, its tree, and what groups said
+    last stay."""
     with os.scandir(folder.path) as entries:
         sizes = {it.name: it.stat().st_size for it in entries if it.is_file() and not it.name.startswith(".")}
     over = sum(sizes.values()) - most
     if over <= 0:
-        return
+        return True
     by_epoch = names_by_epoch(sizes)
     maps = sorted(epoch for epoch, names in by_epoch.items() if f"{epoch}.osd.json" in names)
     last = maps[-1] if maps else 0
     for epoch in sorted(by_epoch):
         if over <= 0:
-            return
+            return True
         if epoch < last:
             hand_on_tree(folder, epoch, maps, by_epoch, sizes)
         for name in sorted(by_epoch[epoch]):  # of an epoch that goes all, else the oldest of what groups said
             if epoch < last or over > 0 and name.endswith(".pgs.json"):
                 os.unlink(folder.at(name))
                 over -= sizes[name]
-    if over > 0:
-        tell(f"{folder.path} is larger than --size, and what is left is needed")
+    return over <= 0
 
 
 def names_by_epoch(names: Iterable[str]) -> Dict[int, List[str]]:

@@ -4,6 +4,7 @@ from typing import Any, Dict, Iterator, List, NamedTuple, Set, Tuple
 
 from .changes import Snapshot
 from .folder import Dumps, version_of
+from .kept_infos import MOST_ENTRIES, asked_of, is_asked, within_room
 from .maps import Device, Group, Places, group_text, read_devices, read_group, read_pools, read_temps, tell_map
 from .nodes import MOST, Node, Unusable
 from .notes import Notes
@@ -117,18 +118,20 @@ class Story:
     def infos(self) -> List[Info]:
         """The infos of all members, in the order of their epochs; one for each member and epoch."""
         found = {(info.group, info.member, info.stamp): info for query in self.queries for info in query.infos}
-        asked = {group: epoch for group, (epoch, _) in sorted(self.states(self.queries, []).items())}
+        asked = asked_of(self.queries)
         for stat in self.stats:
             for info in infos_of_stats(stat, self.pools):
                 late = info._replace(stamp=max(info.stamp, self.first))
-                if late.stamp > asked.get(info.group, 0):
+                if late.group not in self.active:
+                    late = late._replace(log_tail=late.last_update)  # it was active then
+                if not is_asked(asked.get(info.group, []), late.stamp):
                     self.notes.tell(STATS, group_text(info.group))
                     found.setdefault((late.group, late.member, late.stamp), late)
         found.update(((info.group, info.member, info.stamp), info) for info in self.stopped())
         found = {key: self.without_log(info) for key, info in found.items()}
         last, devices = self.snapshots[-1], self.devices()
         kept = (info for info in found.values() if tell_faults(info, last.pools, devices, last.epoch, self.notes))
-        return sorted((info for info in kept if info.stamp >= self.first), key=lambda info: (info.stamp, info.group, info.member))
+        return within_room([info for info in kept if info.stamp >= self.first], MOST_ENTRIES - (last.epoch - self.first), self.notes)
 
     def stopped(self) -> Iterator[Info]:
         """The infos of stopped devices, as of the last epoch that each names, so that none counts as heard."""

@@ -26,7 +26,7 @@ def ways(*sets, more=False):
 
 def reasons(**more):
     told = {"says": DOWN, "verdict": "Down", "blocking": BLOCKING, "starts": ways((0,), (1,)), "losses": ways((0,), (1,)), "unheard": []}
-    return group_reasons.Reasons(**{**told, **more})
+    return group_reasons.Reasons(**{**told, **more}, whole={"losses": {**told, **more}["losses"]})
 
 
 def picture(steps, why, epochs=Epochs()):
@@ -61,8 +61,9 @@ class Words(unittest.TestCase):
         self.assertEqual(group_reasons.epochs_text(spans), "epochs 2, 4, 6, 8, 10, and later ones")
 
     def test_what_ends_down(self):
-        self.assertEqual(ending(reasons()), "What ends Down: start osd.0, or osd.1")
-        self.assertEqual(ending(reasons(verdict="NoPrimary")), "It would be Down, too; what ends that: start osd.0, or osd.1")
+        then = "(it may wait for backfill then)"
+        self.assertEqual(ending(reasons()), f"What ends Down: start osd.0, or osd.1 {then}")
+        self.assertEqual(ending(reasons(verdict="NoPrimary")), f"It would be Down, too; what ends that: start osd.0, or osd.1 {then}")
         wanted = "Last resort, with no way back: declare lost osd.0, or osd.1, which gives up what was written in epochs 3 to 4 at least"
         self.assertEqual(lost_text(reasons(starts=ways())), wanted)
         none = reasons(verdict="Waiting", blocking=[], starts=ways(), losses=ways())

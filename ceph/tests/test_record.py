@@ -8,9 +8,15 @@ import signal
 import subprocess
 import sys
 import time
+import unittest
 
 import test_fetch
-from case import TOOL
+from case import HAS_PROGRAM, PROGRAM, TOOL
+from pgpeer_ceph.cluster import Cluster
+from pgpeer_ceph.kept_infos import is_asked, within_room
+from pgpeer_ceph.notes import Notes
+from pgpeer_ceph.reports import Info
+from pgpeer_ceph.timeline import Timeline
 from test_fetch import STRAW2
 
 # The commands of test_fetch, in a cluster whose last epoch a file names.
@@ -145,6 +151,24 @@ class Rounds(Record):
         infos = [json.loads(line) for line in run.stdout.splitlines() if '"op":"info"' in line]
         self.assertLess(len({info["stamp"] for info in infos}), len(infos))
 
+    @unittest.skipUnless(HAS_PROGRAM, f"no program {PROGRAM}")
+    def test_what_was_recorded_is_known_of_the_past(self):
+        """Group 3.0 is said to be active in epoch 60, on osd.0 and osd.2, and is queried in epoch 64."""
+        self.reach(58)
+        dump = json.loads((self.folder / "pgs.json").read_text())
+        for stat in dump["pg_map"]["pg_stats"]:
+            if stat["pgid"] == "3.0":
+                stat.update(state="active+undersized", acting=[0], up=[0], acting_primary=0, up_primary=0, mapping_epoch=56, reported_epoch=58)
+        (self.folder / "pgs.json").write_text(json.dumps(dump))
+        self.record("--from", 50)
+        self.reach(64)
+        self.record()
+        timeline = Timeline(Cluster(str(self.out), PROGRAM))
+        cluster = timeline.cluster
+        turns = {cluster.epochs.in_ceph(epoch): verdict for epoch, verdict in timeline.turns[cluster.in_script((3, 0))]}
+        self.assertEqual(turns[58], "Serve")
+        self.assertEqual(list(turns.values())[-1], "Down")
+
 
 class Going(Record):
     def test_a_restart_goes_on(self):
@@ -176,6 +200,19 @@ class Going(Record):
         self.record("--from", 55)
         self.assert_whole()
         self.assertEqual(self.maps(), list(range(55, 65)))
+
+    def test_after_a_long_silence_the_monitor_is_asked_which_maps_it_has(self):
+        self.reach(55)
+        run = self.started("--from", 55, "--no-groups")
+        self.until(lambda: "df.json" in self.names())
+        for epoch in range(65, 130):
+            osdmap = json.loads((STRAW2 / "64.osd.json").read_text())
+            (self.folder / f"{epoch}.osd.json").write_text(json.dumps({**osdmap, "epoch": epoch}))
+        (self.folder / "first").write_text("100")
+        self.reach(129)
+        self.until(lambda: self.maps()[-1] == 129 and "fetch.json" in self.names() and "maps that the monitor has no more" in self.notes())
+        self.ended(run)
+        self.assertEqual(self.maps(), [55, *range(100, 130)])
 
     def test_only_one_records(self):
         run = self.started("--from", 62)
@@ -271,6 +308,27 @@ class Faults(Record):
             self.assertNotIn("pgpeer-record", run.stderr)
 
 
+class Reports(unittest.TestCase):
+    def info(self, stamp, pg=0, osd=0):
+        return Info((1, pg), (osd, 0), stamp, 1, 1, 1, (0, 0), (0, 0), True)
+
+    def test_the_last_of_each_member_and_then_the_latest_have_room(self):
+        infos = [self.info(stamp, pg, osd) for stamp in range(1, 11) for pg in range(2) for osd in range(2)]
+        notes = Notes()
+        self.assertEqual(within_room(list(reversed(infos)), 40, notes), infos)
+        self.assertEqual(list(notes.lines()), [])
+        self.assertEqual(within_room(infos, 9, notes), infos[-9:])
+        self.assertEqual(list(notes.lines()), ["older reports of members that told of a group again, since a log has no room for them: those before epoch 8"])
+        early = [self.info(1, 7), *infos]
+        self.assertEqual(within_room(early, 6, Notes()), [early[0], *infos[-5:]])
+        self.assertEqual(within_room(early, 2, Notes()), [early[0], *infos[-4:]])
+
+    def test_a_dump_is_left_out_where_a_query_of_its_interval_is_there(self):
+        queries = [(60, 56), (64, 62)]
+        wanted = {50: False, 55: False, 56: True, 60: True, 61: False, 62: True, 64: True, 65: False}
+        self.assertEqual({stamp: is_asked(queries, stamp) for stamp in wanted}, wanted)
+        self.assertFalse(is_asked([], 7))
+
+
 if __name__ == "__main__":
-    import unittest
     unittest.main()
