@@ -7,7 +7,7 @@ from typing import Any, Dict, List, NamedTuple, Tuple
 
 from .epochs import epochs_of, numbers_beside
 from .folder_told import folder_text
-from .group_told import Told, head, lines_of
+from .group_told import Infos, Told, head, lines_of
 from .maps import group_text, named_group
 from .nodes import Unusable
 from .output import tell, write
@@ -45,6 +45,16 @@ class Answers(NamedTuple):
         return found
 
 
+    def infos(self, group: Tuple[int, int]) -> Infos:
+        """The last info of each member."""
+        found: Infos = {}
+        for entry in self.taken:
+            if entry["op"] == "info" and entry["pg"] == list(group):
+                member = entry["from"][0], entry["from"][1]
+                found[member] = max(found.get(member, entry), entry, key=lambda info: info["stamp"])
+        return found
+
+
 def told_of(program: str, entries: List[Entry], groups: List[Tuple[int, int]]) -> Answers:
     questions = [json.dumps({"op": "ask", "pg": list(group)}) for group in groups]
     said = answers(program, [*(line for _, line, _ in entries), *questions])
@@ -71,7 +81,7 @@ def groups_text(options: argparse.Namespace) -> str:
         name = group_text(numbers.in_ceph(group))
         if wanted:
             why = explained(options.program, [line for _, line, _ in entries], group_text(group), epochs)
-            lines += lines_of(Told(name, view, told.history(group), epochs, why), options.losses)
+            lines += lines_of(Told(name, view, told.history(group), epochs, why, infos=told.infos(group)), options.losses)
         else:
             lines.append(head(view, name, epochs))
     return "".join(f"{line}\n" for line in lines)

@@ -88,7 +88,8 @@ def told_of(cluster: Cluster, group: Group) -> Told:
         history.take(line)
     agree, rule = rule_of(cluster, group, view)
     named = "" if agree else rule or "another state, and no rule of ours says why"
-    return Told(group_text(group), view, history, cluster.epochs, cluster.reasons(group), cluster.said.get(group), named)
+    infos = cluster.parts.infos.get(own, {})
+    return Told(group_text(group), view, history, cluster.epochs, cluster.reasons(group), cluster.said.get(group), named, infos)
 
 
 def groups_text(cluster: Cluster, groups: Iterable[Group], with_losses: bool) -> Iterator[str]:

@@ -1,6 +1,6 @@
 """A group at length: its verdict and why, where it lies, for whom it waits, and what ends that."""
 
-from typing import Iterator, List, NamedTuple, Optional
+from typing import Any, Dict, Iterator, List, NamedTuple, Optional
 
 from .cluster import Said
 from .epochs import Epochs
@@ -9,6 +9,9 @@ from .rules import members_of, superseded
 from .steps import History, Member, Pool, View
 from .waits import are_enough
 from .words import ending, lost_text, member_text, osds_text
+
+
+Infos = Dict[Member, Dict[str, Any]]
 
 
 class Told(NamedTuple):
@@ -21,6 +24,7 @@ class Told(NamedTuple):
     why: Reasons
     said: Optional[Said] = None  # by Ceph, where a folder tells
     rule: str = ""  # of the difference between both
+    infos: Infos = {}  # the last of each member, whether it counts or not
 
     def pool(self) -> Pool:
         assert self.history.made is not None
@@ -70,7 +74,27 @@ def places(told: Told) -> Iterator[str]:
     up = said.up if said is not None and not any(osd is not None for osd in view["up"]) else view["up"]
     yield f"  up {places_text(up)}, acting {places_text(view['acting'])}, led by {lead}, since epoch {text(view['first'])}"
     yield f"  has to hear {', '.join(member_text(it, told.pool()) for it in view['probe']) or 'nobody'}"
+    yield from copies(told)
     yield f"  last began to serve in epoch {text(view['les'])}" if view["les"] else "  nobody told when it last began to serve"
+
+
+def copies(told: Told) -> Iterator[str]:
+    """What members told of their copies, those that have to be heard first."""
+    probe, counted = [(osd, slot) for osd, slot in told.view["probe"]], told.history.heard
+    for member in (*probe, *sorted(told.infos.keys() - set(probe))):
+        info, name = told.infos.get(member), member_text(member, told.pool())
+        if info is None:
+            yield f"    {name} wasn't heard"
+        else:
+            late = "" if counted(member, told.view["first"]) else ", too old"
+            yield f"    {name} (epoch {told.epochs.text(info['stamp'])}{late}): {copy_text(info, told.epochs)}"
+
+
+def copy_text(info: Dict[str, Any], epochs: Epochs) -> str:
+    """What an info says of a copy."""
+    epoch, number = info["last_update"]
+    served = f"served in epoch {epochs.text(info['les'])}" if info["les"] else "never served"
+    return f"{'' if info['complete'] else 'not '}complete, last write {epochs.text(epoch)}'{number}, {served}"
 
 
 def intervals(told: Told) -> Iterator[str]:

@@ -8,7 +8,7 @@ import subprocess
 import unittest
 
 from broken import broken
-from case import HAS_PROGRAM, MAPS, PROGRAM, TOOL, Room, written
+from case import HAS_PROGRAM, MAPS, PROGRAM, ROOT, TOOL, Room, written
 from pgpeer_ceph import folder_told, group_told, rules
 from pgpeer_ceph.cluster import Said
 from pgpeer_ceph.epochs import Epochs
@@ -88,6 +88,14 @@ class Explained(Folders):
         self.assertIn("  What ends Down: start osd.1 (it may wait for backfill then)", lines)
         self.assertFalse([line for line in lines if "lost" in line])
         self.assertIn("  Last resort, with no way back: declare lost osd.1", self.told("explain", "4.1", "--losses"))
+
+    def test_what_members_told_of_their_copies(self):
+        lines = self.told("explain", "4.1").splitlines()
+        at = lines.index("  has to hear osd.2 (shard 0), osd.3 (shard 2)")
+        self.assertEqual(lines[at + 1 : at + 3], ["    osd.2 (shard 0) (epoch 64): complete, last write 0'0, served in epoch 53", "    osd.3 (shard 2) wasn't heard"])
+        status, out, _ = written("explain", "--program", PROGRAM, ROOT / "examples/explain_incomplete.jsonl", "1.0")
+        self.assertIn("\n    osd.1 (epoch 5): not complete, last write 4'5, served in epoch 3\n    osd.2 (epoch 5): complete, last write 2'2, served in epoch 1\n"
+                      "    osd.0 (epoch 3, too old): complete, last write 2'2, served in epoch 1\n", out)
 
     def test_caveats_of_other_groups_are_left_out(self):
         (self.room / "fetch.json").write_text(json.dumps({"not_fetched": {"reports of groups that gave no answer": ["4.1", "4.0"]}}))
