@@ -12,12 +12,14 @@ import subprocess
 import tempfile
 import time
 import uuid
-from typing import Any, Dict, Iterator, List, NamedTuple, Optional
+from typing import Any, Dict, Iterator, List, NamedTuple, Optional, Tuple
 
 import ceph_package  # noqa: F401
 from pgpeer_ceph.nodes import Unusable
+from pgpeer_ceph.trees import PROFILE
 
 MOST_SECONDS = 60  # for one command
+DEVICES = 24  # where nothing else is said
 LIBC = ctypes.CDLL(None)
 
 
@@ -95,6 +97,40 @@ osd class load list =
 osd crush update on start = false
 osd class update on start = {classes}
 """
+
+
+def tree_text(tree: Dict[str, Tuple[str, str, Dict[str, float]]], rules: List[str], devices: int = DEVICES) -> str:
+    """A tree for crushtool, of buckets from the lowest: by name their type, kind, and items with weights."""
+    tunables = {**PROFILE, "straw_calc_version": 1, "allowed_bucket_algs": 54}
+    lines = [f"tunable {name} {value}" for name, value in tunables.items()]
+    lines += [f"device {osd} osd.{osd}" for osd in range(devices)]
+    lines += [f"type {number} {name}" for number, name in enumerate(("osd", "host", "rack", "row", "root"))]
+    for at, (name, (kind, alg, items)) in enumerate(tree.items()):
+        lines += [f"{kind} {name} {{", f"id {-1 - at}", f"alg {alg}", "hash 0"]
+        lines += [f"item {item} weight {weight:.5f}" for item, weight in items.items()] + ["}"]
+    root = list(tree)[-1]
+    for number, step in enumerate(rules):
+        kind = "erasure" if "indep" in step else "replicated"
+        lines += [f"rule rule{number} {{", f"id {number}", f"type {kind}", "min_size 1", "max_size 16"]
+        *sets, choice = step.split("; ")
+        lines += [*(f"step {it}" for it in sets), f"step take {root}", f"step {choice}", "step emit", "}"]
+    return "\n".join(lines) + "\n"
+
+
+def even_tree(hosts: int, racks: int, algs: str, rules: List[str], devices: int = DEVICES) -> str:
+    """A tree of all devices in this many hosts, these in racks (none where it is 0), with the kinds of host, rack and root."""
+    host_alg, rack_alg, root_alg = algs.split()
+    share, tree = devices // hosts, {}
+    for host in range(hosts):
+        tree[f"h{host}"] = ("host", host_alg, {f"osd.{host * share + at}": 1.0 for at in range(share)})
+    tops = {f"h{host}": 1.0 * share for host in range(hosts)}
+    if racks:
+        each = hosts // racks
+        for rack in range(racks):
+            tree[f"r{rack}"] = ("rack", rack_alg, {f"h{rack * each + at}": 1.0 * share for at in range(each)})
+        tops = {f"r{rack}": each * 1.0 * share for rack in range(racks)}
+    tree["all"] = ("root", root_alg, tops)
+    return tree_text(tree, rules, devices)
 
 
 class Cluster:

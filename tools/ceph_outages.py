@@ -19,11 +19,12 @@ from dataclasses import asdict, dataclass, field
 from typing import Any, Callable, Dict, List, Optional, Tuple
 
 import ceph_package  # noqa: F401
-from ceph_cluster import MOST_SECONDS, Cluster, run
+from ceph_cluster import MOST_SECONDS, Cluster, run, tree_text
 from pgpeer_ceph.nodes import Unusable
 
 DEBIAN = "/usr/lib/python3/dist-packages"
 SETTLED, PATIENCE, POLL = 0.6, 14.0, 0.3  # seconds
+BY_DEVICE = ["choose firstn 0 type osd", "choose indep 0 type osd"]
 RESTLESS = ("activating", "recover", "backfill", "creating", "unknown", "snaptrim")
 MORE_CONF = """\
 osd heartbeat grace = 6
@@ -78,20 +79,6 @@ def kept(path: str) -> Record:
     return found
 
 
-def tree_text(alg: str, devices: int) -> str:
-    """A tree of all devices under the root, which is a bucket of the kind."""
-    lines = ["tunable choose_local_tries 0", "tunable choose_local_fallback_tries 0", "tunable choose_total_tries 50",
-             "tunable chooseleaf_descend_once 1", "tunable chooseleaf_vary_r 1", "tunable chooseleaf_stable 1",
-             "tunable straw_calc_version 1", "tunable allowed_bucket_algs 54"]
-    lines += [f"device {osd} osd.{osd}" for osd in range(devices)] + ["type 0 osd", "type 1 host", "type 10 root"]
-    lines += ["root all {", "id -1", f"alg {alg}", "hash 0", *(f"item osd.{osd} weight 1.0" for osd in range(devices)), "}"]
-    for number, mode in enumerate(("firstn", "indep")):
-        kind = ("replicated", "erasure")[number]
-        lines += [f"rule rule{number} {{", f"id {number}", f"type {kind}", "min_size 1", "max_size 16", "step take all",
-                  f"step choose {mode} 0 type osd", "step emit", "}"]
-    return "\n".join(lines) + "\n"
-
-
 class LiveCluster(Cluster):
     """A cluster whose devices run."""
 
@@ -106,7 +93,7 @@ class LiveCluster(Cluster):
         sys.path.append(DEBIAN)
         import rados  # of python3-rados
         self.rados = rados.Rados(conffile=self.conf, name="client.admin")
-        self.rados.connect(timeout=30)
+        self.rados.connect(timeout=MOST_SECONDS)
 
     def close(self) -> None:
         for daemon in self.daemons.values():
@@ -130,6 +117,16 @@ class LiveCluster(Cluster):
 
     def make(self, devices: int, alg: str) -> None:
         """Makes devices, the tree and two pools."""
+        self.add_devices(devices)
+        self.tree(tree_text({"all": ("root", alg, {f"osd.{osd}": 1.0 for osd in range(devices)})}, BY_DEVICE, devices))
+        size = self.rng.choice((2, 3, 3))
+        self.replicated("rep", 8, size, self.rng.randint(1, size), "rule0")
+        k, m = self.rng.choice(((2, 1), (2, 2), (3, 1), (3, 2)) if devices > 4 else ((2, 1), (2, 2)))
+        self.erasure("ec", 8, k, m, "rule1")
+        self.ceph("osd", "pool", "set", "ec", "min_size", str(self.rng.randint(k, min(k + m, max(k, 3)))))
+
+    def add_devices(self, devices: int) -> None:
+        """Makes devices that run."""
         for osd in range(devices):
             self.ids[osd] = str(uuid.uuid4())
             self.command({"prefix": "osd new", "uuid": self.ids[osd]})
@@ -138,12 +135,6 @@ class LiveCluster(Cluster):
             self.daemons[osd] = self.start("ceph-osd", "-i", str(osd))
         for osd in range(devices):
             self.until(lambda: self.is_up(osd))
-        self.tree(tree_text(alg, devices))
-        size = self.rng.choice((2, 3, 3))
-        self.replicated("rep", 8, size, self.rng.randint(1, size), "rule0")
-        k, m = self.rng.choice(((2, 1), (2, 2), (3, 1), (3, 2)) if devices > 4 else ((2, 1), (2, 2)))
-        self.erasure("ec", 8, k, m, "rule1")
-        self.ceph("osd", "pool", "set", "ec", "min_size", str(self.rng.randint(k, min(k + m, max(k, 3)))))
 
     def build(self, osd: int) -> None:
         shutil.rmtree(f"{self.folder}/osd{osd}", ignore_errors=True)

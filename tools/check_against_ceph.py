@@ -3,6 +3,7 @@
 
     tools/check_against_ceph.py [--program PATH] [--keep FOLDER] [NAME...]
     tools/check_against_ceph.py --outages N [--steps N] [--seed N] [--jobs N] [--straw2] [--program PATH] [--keep FOLDER]
+    tools/check_against_ceph.py --operator [GROUPS] [--program PATH] [--keep FOLDER]
     tools/check_against_ceph.py --again FOLDER [--program PATH]
 
 PATH is the built program (by default crates/pgpeer/out/pgpeer). Needs Debian's ceph-base, ceph-common, ceph-mon and ceph-osd.
@@ -17,7 +18,9 @@ and their differences are counted. --keep writes each map's dumps into FOLDER. N
 
 The second form takes N clusters whose devices run through random outages, and compares all groups after each step: sets,
 primaries, past intervals, who is probed, who blocks, and the state. Each difference is counted under the rule that explains
-it. --keep keeps what Ceph said, and --again compares that once more, without Ceph. Without python3-rados there is no outage.
+it. The third takes nine devices in three hosts through one outage, as `pgpeer-ceph fetch` alone keeps it, and holds the state of
+each group against the verdict of that folder; GROUPS (64) are those of the largest pool. --keep keeps what Ceph said, and --again
+compares that once more, without Ceph. Outages need python3-rados, and the third form ceph-mgr.
 
 Status 1: a group of the first part differs, or a difference has no rule. Status 2: the command line is wrong.
 """
@@ -32,17 +35,16 @@ from typing import Any, Callable, Dict, Iterator, List, NamedTuple, Tuple
 
 import ceph_package  # noqa: F401
 import ceph_check_outages
-from ceph_cluster import Cluster, Dumps, room, run
+import ceph_operator
+from ceph_cluster import DEVICES, Cluster, Dumps, even_tree, room, run, tree_text
 from pgpeer_ceph.maps import ERASURE
 from pgpeer_ceph.nodes import Unusable, parsed
 from pgpeer_ceph.output import ended
 from pgpeer_ceph.sets import Where, printed_sets
 from pgpeer_ceph.steps import answers
-from pgpeer_ceph.trees import PROFILE
 
 ROOT = pathlib.Path(__file__).resolve().parent.parent
 PROGRAM = ROOT / "crates/pgpeer/out/pgpeer"
-DEVICES = 24
 TOOLS = ("osdmaptool", "crushtool", "monmaptool", "ceph", "ceph-authtool", "ceph-mon", "ceph-osd")
 MOST_SHOWN = 5  # differences of a map that has to differ
 
@@ -117,43 +119,6 @@ def table(rows: List[Row]) -> str:
     for cell in [*cells, ["all", *sums[:2], "", "", "", *sums[5:]]]:
         lines.append("| " + " | ".join(str(value) for value in cell) + " |")
     return "\n".join(lines)
-
-
-# Trees
-
-
-def tree_text(tree: Dict[str, Tuple[str, str, Dict[str, float]]], rules: List[str]) -> str:
-    """A tree for crushtool, of buckets from the lowest: by name their type, kind, and items with weights."""
-    tunables = {**PROFILE, "straw_calc_version": 1, "allowed_bucket_algs": 54}
-    lines = [f"tunable {name} {value}" for name, value in tunables.items()]
-    lines += [f"device {osd} osd.{osd}" for osd in range(DEVICES)]
-    lines += [f"type {number} {name}" for number, name in enumerate(("osd", "host", "rack", "row", "root"))]
-    for at, (name, (kind, alg, items)) in enumerate(tree.items()):
-        lines += [f"{kind} {name} {{", f"id {-1 - at}", f"alg {alg}", "hash 0"]
-        lines += [f"item {item} weight {weight:.5f}" for item, weight in items.items()] + ["}"]
-    root = list(tree)[-1]
-    for number, step in enumerate(rules):
-        kind = "erasure" if "indep" in step else "replicated"
-        lines += [f"rule rule{number} {{", f"id {number}", f"type {kind}", "min_size 1", "max_size 16"]
-        *sets, choice = step.split("; ")
-        lines += [*(f"step {it}" for it in sets), f"step take {root}", f"step {choice}", "step emit", "}"]
-    return "\n".join(lines) + "\n"
-
-
-def even_tree(hosts: int, racks: int, algs: str, rules: List[str], weight: float = 1.0) -> str:
-    """A tree of all devices in this many hosts, these in racks (none where it is 0), with the kinds of host, rack and root."""
-    host_alg, rack_alg, root_alg = algs.split()
-    share, tree = DEVICES // hosts, {}
-    for host in range(hosts):
-        tree[f"h{host}"] = ("host", host_alg, {f"osd.{host * share + at}": weight for at in range(share)})
-    tops = {f"h{host}": share * weight for host in range(hosts)}
-    if racks:
-        each = hosts // racks
-        for rack in range(racks):
-            tree[f"r{rack}"] = ("rack", rack_alg, {f"h{rack * each + at}": share * weight for at in range(each)})
-        tops = {f"r{rack}": each * share * weight for rack in range(racks)}
-    tree["all"] = ("root", root_alg, tops)
-    return tree_text(tree, rules)
 
 
 # The maps
@@ -366,6 +331,7 @@ def main() -> int:
     parser.add_argument("--seed", type=int, default=1, metavar="N", help="the first cluster's seed, the next has one more (1)")
     parser.add_argument("--jobs", type=int, default=1, metavar="N", help="clusters side by side (1)")
     parser.add_argument("--straw2", action="store_true", help="of clusters with straw2 buckets, whose acting sets are Ceph's")
+    parser.add_argument("--operator", type=int, nargs="?", const=64, metavar="GROUPS", help="take a cluster through an outage as fetch keeps it")
     parser.add_argument("--again", metavar="FOLDER", help="compare what was kept there")
     options = parser.parse_args()
     if not set(options.names) <= set(known):
@@ -373,7 +339,8 @@ def main() -> int:
     if not os.access(options.program, os.X_OK):
         parser.error(f"no program {options.program}; README.md says how to build it")
     if options.again:
-        return ended(lambda: ceph_check_outages.again(options.program, options.again), "check_against_ceph")
+        again = ceph_operator.again if list(pathlib.Path(options.again).glob("*.states.json")) else ceph_check_outages.again
+        return ended(lambda: again(options.program, options.again), "check_against_ceph")
     absent = [tool for tool in TOOLS if not shutil.which(tool)]
     if absent:
         parser.error(f"no {', '.join(absent)}; they are in Debian's ceph-base, ceph-common, ceph-mon and ceph-osd")
@@ -382,6 +349,8 @@ def main() -> int:
 
 def checked(options: argparse.Namespace, known: List[str]) -> int:
     """The status of a comparison of maps, or of outages."""
+    if options.operator is not None:
+        return ceph_operator.operated(options.program, options.operator, options.keep)
     if options.outages is not None:
         seeds = range(options.seed, options.seed + max(options.outages, 1))
         lives = [ceph_check_outages.Life(seed, options.steps, options.straw2) for seed in seeds]

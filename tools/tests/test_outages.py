@@ -3,8 +3,11 @@
 import contextlib
 import copy
 import io
+import json
 import os
 import pathlib
+import re
+import shutil
 import sys
 import tempfile
 import unittest
@@ -14,11 +17,13 @@ sys.path.insert(0, str(HERE.parent))
 
 import ceph_check_outages  # noqa: E402
 import ceph_compare  # noqa: E402
+import ceph_operator  # noqa: E402
 import ceph_outages  # noqa: E402
 from pgpeer_ceph import program  # noqa: E402
 from pgpeer_ceph.maps import Code  # noqa: E402
 
 KEPT = HERE.parent.parent / "ceph/tests/maps/outages"
+FETCHED = KEPT.parent / "straw2-outage"
 PROGRAM = program.found()
 HAS_PROGRAM = os.access(PROGRAM, os.X_OK)
 WHOLE, CODED = ceph_compare.PoolCode(None), ceph_compare.PoolCode(Code(2))
@@ -117,6 +122,35 @@ class KeptRecord(unittest.TestCase):
             change(record)
             self.assertIn(what, {it.what for it in self.compared(record, at).unnamed()}, what)
         self.assertEqual(self.compared(self.record, at).unnamed(), [])
+
+
+@unittest.skipUnless(HAS_PROGRAM, f"no program {PROGRAM}")
+class FetchedFolder(unittest.TestCase):
+    """A folder that `fetch` filled, beside what Ceph said of each group then."""
+
+    def again(self, **other):
+        """The status and the text of a comparison, with other states than those that Ceph said."""
+        with tempfile.TemporaryDirectory() as room:
+            shutil.copytree(FETCHED, f"{room}/01")
+            queries = (json.loads(path.read_text()) for path in FETCHED.glob("*.query.json"))
+            states = {**{re.sub(r"s\d+$", "", it["info"]["pgid"]): it["state"] for it in queries}, **other}
+            record = {"name": "outage", "is_calm": True, "seconds": 1.0, "states": states}
+            pathlib.Path(room, "01.states.json").write_text(json.dumps(record))
+            out = io.StringIO()
+            with contextlib.redirect_stdout(out), contextlib.redirect_stderr(io.StringIO()):
+                return ceph_operator.again(PROGRAM, room), out.getvalue()
+
+    def test_each_state_is_beside_its_verdict(self):
+        status, text = self.again()
+        self.assertEqual(status, 0, text)
+        self.assertIn("| outage | 6 | 6 |  |", text)
+        self.assertIn("| down | Down | 4 |  |", text)
+
+    def test_a_state_that_no_rule_explains_is_found(self):
+        status, text = self.again(**{"3.1": "incomplete"})
+        self.assertEqual(status, 1)
+        self.assertIn("| incomplete | Serve | 1 | NONE |", text)
+        self.assertIn("outage: 3.1 is incomplete in Ceph, and Serve [] here", text)
 
 
 class BadInput(unittest.TestCase):
