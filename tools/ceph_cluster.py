@@ -87,6 +87,7 @@ mon osd min up ratio = 0
 mon osd report timeout = 86400
 mon osd down out interval = 0
 mon data avail crit = 1
+mon osd crush smoke test = false
 paxos propose interval = 0.02
 paxos min wait = 0.01
 osd pool default pg autoscale mode = off

@@ -5,7 +5,6 @@ each step every group's state in Ceph stands beside the verdict of the folder th
 of a rule, or none; docs/REAL_MAPS.md tells what each rule is. Needs python3-rados and ceph-mgr besides.
 """
 
-import collections
 import json
 import os
 import pathlib
@@ -15,8 +14,9 @@ import shutil
 import subprocess
 import sys
 import time
+from collections import Counter
 from dataclasses import dataclass, field
-from typing import Any, Counter, Dict, List, NamedTuple, Optional, Set, Tuple
+from typing import Any, Dict, List, NamedTuple, Optional, Set, Tuple
 
 import ceph_package
 from ceph_cluster import even_tree, room
@@ -163,7 +163,7 @@ class Operator:
         self.states = states
         record = {"name": name, "is_calm": is_calm, "seconds": seconds, "states": states}
         pathlib.Path(f"{folder}.states.json").write_text(json.dumps(record))
-        words = collections.Counter(map(word_of, states.values()))
+        words = Counter(map(word_of, states.values()))
         print(f"{self.count}. {name}: {dict(words)}, fetched in {seconds:.0f} s" + ("" if is_calm else ", restless"), file=sys.stderr, flush=True)
         return folder
 
@@ -244,8 +244,8 @@ def write(cluster: HostCluster) -> None:
 class Result:
     """How many groups have which state and verdict, by the rule where they differ, over all steps; and of which none says why."""
 
-    counts: Counter[Tuple[str, str, str]] = field(default_factory=collections.Counter)
-    steps: List[Tuple[str, int, int, Counter[str]]] = field(default_factory=list)  # name, groups, how many agree, rules of others
+    counts: Counter[Tuple[str, str, str]] = field(default_factory=Counter)
+    steps: List[Tuple[str, Counter[str], Counter[str]]] = field(default_factory=list)  # name, words of those that agree, rules of others
     unnamed: List[str] = field(default_factory=list)
     seconds: float = 0.0
 
@@ -255,14 +255,15 @@ def compare_step(program: str, folder: str, result: Result) -> None:
     begun = time.monotonic()
     record = json.loads(pathlib.Path(f"{folder}.states.json").read_text())
     cluster = Cluster(folder, program)
-    views, rules = cluster.all_views(), collections.Counter()
+    views = cluster.all_views()
+    agree, rules = Counter[str](), Counter[str]()
     for name, state in record["states"].items():
         group = read_group(Node(name, name))
         theirs, view = word_of(state), views.get(group)
         ours, rule = (view["verdict"], rule_of(cluster, group, view)[1]) if view else ("none", "")
         if theirs in OURS.get(ours, ()):
             result.counts[theirs, ours, ""] += 1
-            rules[""] += 1
+            agree[theirs] += 1
             continue
         rule = rule or ("" if record["is_calm"] else "unsettled")
         result.counts[theirs, ours, rule or "NONE"] += 1
@@ -270,15 +271,17 @@ def compare_step(program: str, folder: str, result: Result) -> None:
         if not rule:
             blocked = view["blocked_by"] if view else ""
             result.unnamed.append(f"{record['name']}: {name} is {state} in Ceph, and {ours} {blocked} here")
-    result.steps.append((record["name"], len(record["states"]), rules.pop("", 0), rules))
+    result.steps.append((record["name"], agree, rules))
     result.seconds += time.monotonic() - begun
 
 
 def table(result: Result) -> str:
-    """The steps in Markdown, and below them states and verdicts."""
-    lines = ["| Step | groups | agree | differ by rule |", "|---|---:|---:|---|"]
-    for name, count, agree, rules in result.steps:
-        lines.append(f"| {name} | {count:,} | {agree:,} | {', '.join(f'{rule} {it:,}' for rule, it in rules.most_common())} |")
+    """The steps in Markdown, with Ceph's words for groups that agree, and below them states and verdicts."""
+    words = sorted({word for _, agree, _ in result.steps for word in agree})
+    lines = [f"| Step | {' | '.join(words)} | differ by rule |", "|---" + "|---:" * len(words) + "|---|"]
+    for name, agree, rules in result.steps:
+        told = ", ".join(f"{rule} {count:,}" for rule, count in rules.most_common())
+        lines.append(f"| {name} | {' | '.join(f'{agree[word]:,}' for word in words)} | {told} |")
     lines += ["", "| Ceph | here | groups | rule |", "|---|---|---:|---|"]
     lines += [f"| {theirs} | {ours} | {count:,} | {rule} |" for (theirs, ours, rule), count in sorted(result.counts.items())]
     return "\n".join(lines)

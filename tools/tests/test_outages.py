@@ -143,7 +143,8 @@ class FetchedFolder(unittest.TestCase):
     def test_each_state_is_beside_its_verdict(self):
         status, text = self.again()
         self.assertEqual(status, 0, text)
-        self.assertIn("| outage | 6 | 6 |  |", text)
+        self.assertIn("| Step | active | down | differ by rule |", text)
+        self.assertIn("| outage | 2 | 4 |  |", text)
         self.assertIn("| down | Down | 4 |  |", text)
 
     def test_a_state_that_no_rule_explains_is_found(self):
