@@ -17,6 +17,8 @@ WHERE = "groups lie as in Ceph with script --groups FILE, of osdmaptool MAP --te
 def options_of_scripts(parser: argparse.ArgumentParser) -> None:
     parser.add_argument("--pool", type=int, action="append", default=[], metavar="ID",
                         help="carry this pool, and others only where they are named so too")
+    parser.add_argument("--straw2", action="store_true",
+                        help="carry straw2 buckets as such, in lines that `pgpeer run --format 3` reads")
     parser.add_argument("--ask", action="store_true", help="append a question for each group")
     parser.add_argument("--strict", action="store_true", help="what can't be carried over is an error")
     parser.add_argument("--output", "-o", metavar="SCRIPT", help="the script's file, beside which its epochs are kept")

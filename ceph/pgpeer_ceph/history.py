@@ -25,10 +25,8 @@ class Script(NamedTuple):
 
 
 def bucket_object(bucket: Bucket) -> Line:
-    head = {"id": bucket.id, "type": bucket.type}
-    if bucket.alg == "uniform":
-        return {**head, "alg": "uniform", "items": bucket.items}
-    return {**head, "alg": "list", "items": bucket.items, "weights": bucket.weights}
+    made = {"id": bucket.id, "type": bucket.type, "alg": bucket.alg, "items": bucket.items}
+    return made if bucket.alg == "uniform" else {**made, "weights": bucket.weights}
 
 
 def pool_object(pool: Pool, leaf: int) -> Line:
@@ -53,7 +51,9 @@ def pool_parts(pools: List[Pool], temps: List[Temp], leaves: Dict[int, int]) -> 
 
 
 def incremental(epoch: int, part: Line) -> Line:
-    version = {"v": 2} if any(pool["kind"] == "grouped" for pool in part.get("pools", ())) else {}
+    has_groups = any(pool["kind"] == "grouped" for pool in part.get("pools", ()))
+    has_straw2 = any(bucket["alg"] == "straw2" for bucket in part.get("crush", ()))
+    version = {"v": 3 if has_straw2 else 2} if has_straw2 or has_groups else {}
     return {"op": "inc", **version, "epoch": epoch, **{key: value for key, value in part.items() if value}}
 
 
@@ -96,7 +96,7 @@ class Writer:
             later = [it for it in self.story.crush if it > version]
             version = min(later) if later else max(self.story.crush)
         root = self.root
-        return [bucket_object(it) for it in carried_tree(self.story.crush[version], root, self.notes)]
+        return [bucket_object(it) for it in carried_tree(self.story.crush[version], root, self.story.wanted.straw2, self.notes)]
 
     def write(self) -> Script:
         story = self.story

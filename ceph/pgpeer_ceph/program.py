@@ -14,5 +14,8 @@ def found() -> str:
     return os.environ.get("PGPEER") or next(beside, None) or shutil.which("pgpeer") or "pgpeer"
 
 
+FORMAT = ("--format", "3")  # of the lines that are read
+
+
 def option_of_program(parser: argparse.ArgumentParser) -> None:
     parser.add_argument("--program", default=found(), metavar="PATH", help="the program pgpeer, where it isn't found")

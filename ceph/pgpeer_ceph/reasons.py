@@ -7,6 +7,7 @@ from typing import Any, Dict, Iterable, List, NamedTuple
 
 from .epochs import Epochs
 from .nodes import Unusable
+from .program import FORMAT
 
 Set = List[int]  # devices that are enough together
 MOST_SPANS = 5  # runs of epochs that are named
@@ -65,7 +66,7 @@ def in_ceph(sentence: str, epochs: Epochs) -> str:
 
 def explained(program: str, lines: Iterable[str], group: str, epochs: Epochs = Epochs()) -> Reasons:
     """What the program says of a group that the lines make, with the epochs of Ceph."""
-    words = [program, "explain", group, "--json"]
+    words = [program, "explain", group, "--json", *FORMAT]
     script = "".join(f"{line}\n" for line in lines)
     try:
         run = subprocess.run(words, input=script.encode(), capture_output=True)

@@ -1,8 +1,7 @@
 """Ceph's own sets: on which devices groups lie, as `osdmaptool --test-map-pgs-dump-all` and `ceph pg dump` print it.
 
-Placement by straw2 buckets isn't the program's, so where a tree has them its up sets are others than Ceph's. The acting sets
-that Ceph prints are carried as pg_temp lists, and then no tree is carried: up sets are empty, so that each interval is that
-of the acting sets.
+Where a tree can't be carried whole, its up sets are others than Ceph's. The acting sets that Ceph prints are carried as
+pg_temp lists, and then no tree is carried: up sets are empty, so that each interval is that of the acting sets.
 """
 
 import re

@@ -42,7 +42,7 @@ def device_parts(devices: List[Device], tree: List[Bucket], notes: Notes) -> Lis
     return [part for part in parts if any(part.values())]
 
 
-def script(osdmap: Node, crush_node: Optional[Node], wanted: List[int], notes: Notes) -> Tuple[List[Line], List[Pool]]:
+def script(osdmap: Node, crush_node: Optional[Node], wanted: List[int], straw2: bool, notes: Notes) -> Tuple[List[Line], List[Pool]]:
     """The incrementals, and the pools that they make. With pools wanted, just those."""
     devices, pools = read_devices(osdmap, notes), read_pools(osdmap, notes) if not wanted else []
     if wanted:
@@ -55,7 +55,7 @@ def script(osdmap: Node, crush_node: Optional[Node], wanted: List[int], notes: N
         crush = read_crush(crush_node, notes)
         root, pools = pools_of_one_root(crush, pools, notes)
         tell_classes(crush_node, notes)
-        tree = carried_tree(crush, root, notes)
+        tree = carried_tree(crush, root, straw2, notes)
         leaves = {pool.id: choice_of(crush, pool).type for pool in pools}
     pools = within_all_groups(pools, notes)
     tell_map(osdmap, {pool.id for pool in pools}, notes)
@@ -83,7 +83,7 @@ def questions(pools: List[Pool]) -> Iterator[Line]:
 
 def map_alone(options: argparse.Namespace, notes: Notes) -> Script:
     osdmap, crush = load(options.osdmap), load(options.crush) if options.crush else None
-    lines, pools = script(osdmap, crush, options.pool, notes)
+    lines, pools = script(osdmap, crush, options.pool, options.straw2, notes)
     if pools and not options.alone:
         notes.tell(HISTORY, HOW)
     return Script([*lines, *(questions(pools) if options.ask else ())], None)

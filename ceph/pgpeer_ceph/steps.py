@@ -10,6 +10,7 @@ from .epochs import Epochs
 from .maps import named_group
 from .nodes import Unusable, ranges, text_of
 from .numbers import Numbers
+from .program import FORMAT
 from .reasons import Reasons, explained
 
 ENTRIES = ("inc", "info", "entries", "close")
@@ -231,7 +232,7 @@ def streamed(program: str, lines: Iterable[str]) -> Generator[bytes, None, None]
         script.writelines(line.encode() + b"\n" for line in lines)
         script.seek(0)
         try:
-            run = subprocess.Popen([program, "run"], bufsize=READ_BYTES, stdin=script, stdout=subprocess.PIPE, stderr=errors)
+            run = subprocess.Popen([program, "run", *FORMAT], bufsize=READ_BYTES, stdin=script, stdout=subprocess.PIPE, stderr=errors)
         except OSError as fault:
             raise Unusable(f"{program}: {fault.strerror}") from fault
         assert run.stdout is not None

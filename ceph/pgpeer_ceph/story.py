@@ -33,6 +33,7 @@ class Selection(NamedTuple):
     until: int = MOST
     own_sets: bool = False  # acting sets are those that Ceph printed
     ask: bool = False
+    straw2: bool = False  # straw2 buckets are carried as such
 
 
 class Story:

@@ -78,6 +78,7 @@ class Rule(NamedTuple):
 class Crush(NamedTuple):
     buckets: Tree
     rules: Dict[int, Rule]
+    weight_sets: Tuple[str, ...] = ()  # the names of its choose_args
 
     def below(self, root: int) -> Iterator[Bucket]:
         """The bucket and all that are below it, each as often as it is held, down to the deepest level."""
@@ -148,9 +149,10 @@ def read_crush(node: Node, notes: Notes) -> Crush:
         if tunables.key(name).whole() != value:
             notes.tell("other tunables, so places may differ", f"{name} {tunables.key(name).whole()} (for {value})")
     choose_args = node.key("choose_args").value if node.has("choose_args") else None
-    if isinstance(choose_args, dict) and choose_args:
-        notes.tell("choose_args", " ".join(f"set {name}" for name in choose_args))
-    return Crush({bucket.id: bucket for bucket in buckets}, {rule.id: rule for rule in rules})
+    weight_sets = tuple(choose_args) if isinstance(choose_args, dict) else ()
+    if weight_sets:
+        notes.tell("choose_args", " ".join(f"set {name}" for name in weight_sets))
+    return Crush({bucket.id: bucket for bucket in buckets}, {rule.id: rule for rule in rules}, weight_sets)
 
 
 # Judging what is carried
@@ -243,7 +245,19 @@ def depth_of(crush: Crush, bucket: int) -> int:
     return 1 + max((depth_of(crush, item) for item in held), default=0)
 
 
-def carried_tree(crush: Crush, root: Optional[int], notes: Notes) -> List[Bucket]:
+def carried_alg(crush: Crush, bucket: Bucket, has_straw2: bool, notes: Notes) -> str:
+    """How the bucket chooses in the script. Weight sets play a part in straw2 buckets alone."""
+    if bucket.alg == "straw2" and has_straw2:
+        if crush.weight_sets:
+            notes.tell("choose_args of straw2 buckets, so places differ", bucket.label())
+        return bucket.alg
+    if bucket.alg not in ("uniform", "list"):
+        notes.tell(f"{bucket.alg} buckets, carried as list buckets of the same weights, so places differ", bucket.label())
+        return "list"
+    return bucket.alg
+
+
+def carried_tree(crush: Crush, root: Optional[int], has_straw2: bool, notes: Notes) -> List[Bucket]:
     """The buckets of the root's tree, without items that no script can name; none where there is no lawful tree."""
     if root is None:
         if crush.buckets:
@@ -254,9 +268,8 @@ def carried_tree(crush: Crush, root: Optional[int], notes: Notes) -> List[Bucket
         kept = [(item, w) for item, w in zip(bucket.items, bucket.weights) if item < MOST_DEVICES]
         for item in set(bucket.items) - {item for item, _ in kept}:
             notes.tell(f"devices above {MOST_DEVICES - 1}, left out", f"osd.{item}")
-        buckets.append(bucket._replace(items=[item for item, _ in kept], weights=[w for _, w in kept]))
-        if bucket.alg not in ("uniform", "list"):
-            notes.tell(f"{bucket.alg} buckets, carried as list buckets of the same weights, so places differ", bucket.label())
+        alg = carried_alg(crush, bucket, has_straw2, notes)
+        buckets.append(bucket._replace(alg=alg, items=[item for item, _ in kept], weights=[w for _, w in kept]))
     fault = tree_fault(crush, buckets)
     if fault:
         notes.tell("the tree, in whose place the script has none", f"of root {root}, since {fault}")

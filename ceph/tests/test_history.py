@@ -182,6 +182,13 @@ class OwnSets(Case):
         self.assertIn("except what queries and ceph pg dump tell: 60-63\n", self.history("--groups", STRAW2 / "64.groups.txt", *several)[1])
         self.assertIn([3, 0, [2]], [temp for line in lines for temp in line.get("temp", [])])
 
+    def test_straw2_buckets_are_carried_as_such(self):
+        shutil.copy(STRAW2 / "50.crush.json", self.folder / "64.crush.json")
+        lines, err = self.history("--straw2", STRAW2 / "64.osd.json", self.folder / "64.crush.json")
+        trees = [line for line in lines if line.get("crush")]
+        self.assertEqual([(line["v"], {bucket["alg"] for bucket in line["crush"]}) for line in trees], [(3, {"straw2"})])
+        self.assertNotIn("straw2", err)
+
     def test_groups_without_sets_are_named(self):
         (self.folder / "64.groups.txt").write_text("3.0 raw ([2], p2) up ([2], p2) acting ([2], p2)\n")
         err = self.history("--groups", self.folder / "64.groups.txt", STRAW2 / "64.osd.json")[1]

@@ -12,6 +12,8 @@ from case import HAS_PROGRAM, MAPS, PROGRAM, TOOL, Room
 from case import written as written_by
 from pgpeer_ceph.maps import NONE, Code, local_groups
 from pgpeer_ceph.nodes import parsed
+from pgpeer_ceph.sets import printed_sets
+from pgpeer_ceph.steps import answers
 
 
 def dump(name, kind):
@@ -221,6 +223,29 @@ class Removed(Case):
         self.assertTrue({20, 21} <= set(lines[1]["down"]))
         self.assertTrue([20, 0] in lines[0]["weight"] and [21, 0] in lines[0]["weight"])
         self.assertIn("don't exist, taken for 0: osd 20-21", self.told())
+
+
+class Straw2(Case):
+    name = "straw2"
+
+    def test_buckets_are_carried_as_such(self):
+        first, *others = self.lines("--straw2")
+        self.assertEqual((first["v"], {bucket["alg"] for bucket in first["crush"]}), (3, {"straw2"}))
+        self.assertFalse(any("v" in line for line in others))
+        self.assertEqual(self.told("--straw2"), "")
+
+    def test_weight_sets_are_told(self):
+        self.crush["choose_args"] = {"-1": []}
+        self.assertIn("choose_args of straw2 buckets, so places differ: -9 'all', -1 'h0'", self.told("--straw2"))
+        self.assertIn("groups lie as in Ceph with script --groups FILE", self.told("--straw2"))
+
+    @unittest.skipUnless(HAS_PROGRAM, f"no program {PROGRAM}")
+    def test_groups_lie_where_ceph_has_them(self):
+        _, out, _ = self.run_tool("--alone", "--ask", "--straw2")
+        said = [answer for answer in answers(PROGRAM, out.splitlines()) if answer["ok"] == "ask"]
+        ours = {tuple(it["pg"]): (tuple(it["up"]), tuple(it["acting"])) for it in said}
+        sets = printed_sets((MAPS / "straw2.groups.txt").read_text(), "")
+        self.assertEqual(ours, {group: (where.up, where.acting) for group, where in sets.items()})
 
 
 class NotCarried(Case):
