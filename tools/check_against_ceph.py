@@ -70,7 +70,7 @@ def script_of(dumps: Dumps, folder: str) -> Tuple[str, str]:
     for name, text in (("osdmap.json", dumps.osdmap), ("crush.json", dumps.crush)):
         files.append(os.path.join(folder, name))
         pathlib.Path(files[-1]).write_text(text)
-    tool = [sys.executable, str(ROOT / "ceph/pgpeer-ceph"), "map", "--alone", "--ask", *files]
+    tool = [sys.executable, str(ROOT / "ceph/pgpeer-ceph"), "map", "--alone", "--straw2", "--ask", *files]
     run = subprocess.run(tool, capture_output=True, text=True)
     if run.returncode != 0:
         raise Unusable(run.stderr)
@@ -223,10 +223,41 @@ def removed(cluster: Cluster) -> None:
 
 
 def straw2(cluster: Cluster) -> None:
-    """The kind of bucket that Ceph makes by itself."""
+    """The kind of bucket that Ceph makes by itself, with devices down, out and reweighted."""
     cluster.tree(even_tree(8, 0, "straw2 straw2 straw2", BY_HOST))
     cluster.replicated("rep", 64, 3, 2, "rule0")
     cluster.erasure("ec", 64, 4, 2, "rule1")
+    cluster.each("down", [3, 8])
+    cluster.each("out", [8, 19])
+    cluster.each("reweight", [5, 14], "0.4")
+
+
+def straw2_racks(cluster: Cluster) -> None:
+    """Racks of straw2 hosts of uneven weight."""
+    hosts = {f"h{host}": ("host", "straw2", {f"osd.{3 * host + at}": 0.5 + host + at for at in range(3)}) for host in range(8)}
+    weights = {name: sum(items.values()) for name, (_, _, items) in hosts.items()}
+    racks = {f"r{rack}": ("rack", "straw2", {name: weights[name] for name in (f"h{2 * rack}", f"h{2 * rack + 1}")}) for rack in range(4)}
+    root = {"all": ("root", "straw2", {name: sum(items.values()) for name, (_, _, items) in racks.items()})}
+    cluster.tree(tree_text({**hosts, **racks, **root}, BY_RACK))
+    cluster.replicated("rep", 128, 3, 2, "rule0")
+    cluster.erasure("ec", 64, 5, 3, "rule1")
+
+
+def straw2_mixed(cluster: Cluster) -> None:
+    """Uniform hosts in list racks, below a straw2 root."""
+    cluster.tree(even_tree(12, 4, "uniform list straw2", BY_RACK))
+    cluster.replicated("rep", 64, 3, 2, "rule0")
+    cluster.erasure("ec", 64, 4, 2, "rule1")
+
+
+def weight_sets(cluster: Cluster) -> None:
+    """A set of weights beside those of a straw2 tree."""
+    cluster.tree(even_tree(8, 0, "straw2 straw2 straw2", BY_HOST))
+    cluster.replicated("rep", 64, 3, 2, "rule0")
+    cluster.ceph("osd", "set-require-min-compat-client", "luminous", "--yes-i-really-mean-it")
+    cluster.ceph("osd", "crush", "weight-set", "create-compat")
+    for osd in (0, 4, 9):
+        cluster.ceph("osd", "crush", "weight-set", "reweight-compat", f"osd.{osd}", "0.3")
 
 
 def tries(cluster: Cluster) -> None:
@@ -241,25 +272,32 @@ def own_tries(cluster: Cluster) -> None:
 
 def pools_of_tries(cluster: Cluster, leaf: int, total: int) -> None:
     indep = f"set_chooseleaf_tries {leaf}; set_choose_tries {total}; chooseleaf indep 0 type host"
-    cluster.tree(even_tree(8, 0, "list list list", ["chooseleaf firstn 0 type host", indep]))
+    cluster.tree(even_tree(8, 0, "straw2 straw2 straw2", ["chooseleaf firstn 0 type host", indep]))
     cluster.replicated("rep", 64, 3, 2, "rule0")
     cluster.erasure("ec", 64, 4, 2, "rule1")
     cluster.each("out", [0, 1, 4, 7, 10, 13])
 
 
 def upmaps(cluster: Cluster) -> None:
-    """Upmaps and primary affinities."""
-    cluster.tree(even_tree(8, 0, "uniform list list", BY_HOST))
+    """Upmaps."""
+    cluster.tree(even_tree(8, 0, "straw2 straw2 straw2", BY_HOST))
     pool, _ = cluster.replicated("rep", 64, 3, 2, "rule0"), cluster.erasure("ec", 64, 4, 2, "rule1")
     cluster.ceph("osd", "set-require-min-compat-client", "luminous", "--yes-i-really-mean-it")
     for group in range(4):
         cluster.ceph("osd", "pg-upmap", f"{pool}.{group:x}", "0", "3", "6")
+
+
+def affinities(cluster: Cluster) -> None:
+    """Primary affinities."""
+    cluster.tree(even_tree(8, 0, "straw2 straw2 straw2", BY_HOST))
+    cluster.replicated("rep", 64, 3, 2, "rule0")
+    cluster.erasure("ec", 64, 4, 2, "rule1")
     cluster.each("primary-affinity", [1, 2, 12], "0.0")
 
 
 def classes(cluster: Cluster) -> None:
     """A rule for one class of devices: the tree of its rule is the one that Ceph keeps for the class."""
-    cluster.tree(even_tree(8, 0, "list list list", BY_HOST))
+    cluster.tree(even_tree(8, 0, "straw2 straw2 straw2", BY_HOST))
     cluster.ceph("osd", "crush", "set-device-class", "ssd", *(str(osd) for osd in range(DEVICES) if osd % 3))
     cluster.ceph("osd", "crush", "set-device-class", "hdd", *(str(osd) for osd in range(0, DEVICES, 3)))
     cluster.ceph("osd", "crush", "rule", "create-replicated", "fast", "all", "host", "ssd")
@@ -269,9 +307,9 @@ def classes(cluster: Cluster) -> None:
 def roots(cluster: Cluster) -> None:
     """Two roots, each with the rule of a pool."""
     half = DEVICES // 2
-    tree = {f"h{host}": ("host", "list", {f"osd.{3 * host + at}": 1.0 for at in range(3)}) for host in range(8)}
+    tree = {f"h{host}": ("host", "straw2", {f"osd.{3 * host + at}": 1.0 for at in range(3)}) for host in range(8)}
     tops = [{f"h{host}": 3.0 for host in hosts} for hosts in (range(4), range(4, 8))]
-    text = tree_text({**tree, "left": ("root", "list", tops[0]), "right": ("root", "list", tops[1])}, BY_HOST)
+    text = tree_text({**tree, "left": ("root", "straw2", tops[0]), "right": ("root", "straw2", tops[1])}, BY_HOST)
     cluster.tree(text.replace("step take right\nstep chooseleaf", "step take left\nstep chooseleaf"))
     cluster.replicated("rep", 64, 3, 2, "rule0")
     cluster.erasure("ec", 64, 4, 2, "rule1")
@@ -280,11 +318,11 @@ def roots(cluster: Cluster) -> None:
 
 AGREE: Dict[str, Callable[[Cluster], None]] = {
     "whole": whole, "down": down, "out": out, "temps": temps, "racks": racks, "uneven": uneven, "rounds": rounds,
-    "own-tries": own_tries,
+    "own-tries": own_tries, "straw2": straw2, "straw2-racks": straw2_racks, "straw2-mixed": straw2_mixed, "classes": classes,
 }
 LAST: Dict[str, Callable[[Cluster], None]] = {"removed": removed}  # since its devices don't come back
 TOLD: Dict[str, Callable[[Cluster], None]] = {
-    "straw2": straw2, "tries": tries, "upmaps": upmaps, "roots": roots, "classes": classes,
+    "tries": tries, "upmaps": upmaps, "affinities": affinities, "weight-sets": weight_sets, "roots": roots,
 }
 BUILT = {
     "built-uniform": ("host uniform 4 rack uniform 3 root uniform 0", [5]),
