@@ -4,14 +4,15 @@
     tools/compare_with_ceph.py [--inputs N] [--trees N]
 
 Needs `osdmaptool` and `crushtool` (Debian: ceph-base and ceph-osd). The definitions of pgp_hash/specs and pgp_crush/specs
-are written out here once more, in Python, and each of their values below is compared with the answer of a tool:
+are written out once more in Python, in fuzz/placement.py, and each of their values below is compared with the answer of a tool:
 
   names      the group of an object's name among many numbers of groups: the lower 30 bits of the name's hash, and
              the groups of a number that is no power of two
   two words  from which weight on a device is in: the lower 16 bits of the hash
   three      the first choice of uniform buckets of 247 to 256 items: all 32 bits of the hash
   four       from which weight on a list bucket chooses its last item: the lower 16 bits of the hash
-  placements random trees of list and uniform buckets, weights, inputs and numbers of places, both kinds of rule
+  placements random trees of straw2 buckets, and of straw2, list and uniform buckets, weights, inputs and numbers of places,
+             both kinds of rule
 
 crushtool runs with `choose_total_tries 50` and the tunables of Ceph's current profile, with which its rules of one take and
 one choose are those of this project. Prints how many values agree, and ends with status 1 at the first that does not, and
@@ -19,6 +20,7 @@ with status 2 where a tool isn't there, fails, or what is printed can't be writt
 """
 
 import argparse
+import pathlib
 import random
 import re
 import shutil
@@ -30,150 +32,25 @@ import ceph_package  # noqa: F401
 from pgpeer_ceph.nodes import Unusable
 from pgpeer_ceph.output import ended
 
+sys.path.append(str(pathlib.Path(__file__).resolve().parent.parent / "fuzz"))
+
+import placement  # noqa: E402
+from placement import Bucket, hash2, hash3, hash4, name_hash, stable_mod  # noqa: E402
+
 WORD = 2**32
 NONE = 2147483647  # an empty place, as crushtool prints it
-IN = 0x10000  # the weight from which on a device is always in
+IN = placement.FULL
 
 
-# Hashing
+# A tree is a map from ids to buckets, and a bucket is (type, algorithm, items, weights).
 
 
-def mix(a, b, c):
-    for left, middle, right in ((13, 8, 13), (12, 16, 5), (3, 10, 15)):
-        a = (a - b - c) % WORD ^ c >> left
-        b = (b - c - a) % WORD ^ a << middle & WORD - 1
-        c = (c - a - b) % WORD ^ b >> right
-    return a, b, c
-
-
-SEED, X, Y = 1315423911, 231232, 1232
-
-
-def hash2(a, b):
-    a, b, h = mix(a, b, SEED ^ a ^ b)
-    x, a, h = mix(X, a, h)
-    b, y, h = mix(b, Y, h)
-    return h
-
-
-def hash3(a, b, c):
-    a, b, h = mix(a, b, SEED ^ a ^ b ^ c)
-    c, x, h = mix(c, X, h)
-    y, a, h = mix(Y, a, h)
-    b, x, h = mix(b, x, h)
-    y, c, h = mix(y, c, h)
-    return h
-
-
-def hash4(a, b, c, d):
-    a, b, h = mix(a, b, SEED ^ a ^ b ^ c ^ d)
-    c, d, h = mix(c, d, h)
-    a, x, h = mix(a, X, h)
-    y, b, h = mix(Y, b, h)
-    c, x, h = mix(c, x, h)
-    y, d, h = mix(y, d, h)
-    return h
-
-
-def name_hash(name):
-    words = (0x9E3779B9, 0x9E3779B9, 0)
-    blocks = len(name) // 12
-
-    def number(at):
-        return int.from_bytes(name[at : at + 4].ljust(4, b"\0"), "little")
-
-    for block in range(blocks):
-        words = mix(*((w + number(12 * block + 4 * i)) % WORD for i, w in enumerate(words)))
-    a, b, c = (number(12 * blocks + 4 * i) for i in range(3))
-    adds = (a, b, 256 * c + len(name))
-    return mix(*((w + add) % WORD for w, add in zip(words, adds)))[2]
-
-
-def stable_mod(x, groups):
-    power = 1
-    while power < groups:
-        power *= 2
-    return x % power if x % power < groups else x % (power // 2)
-
-
-# Placement: a tree is a map from ids to buckets, and a bucket is (type, "uniform" or "list", items, weights).
-
-
-def chosen(tree, bucket, x, r):
-    _, alg, items, weights = tree[bucket]
-    word = bucket % WORD
-    if alg == "list":
-        for i in reversed(range(len(items))):
-            share = (hash4(x, items[i] % WORD, r, word) & 0xFFFF) * sum(weights[: i + 1]) >> 16
-            if share < weights[i]:
-                return items[i]
-        return items[0]
-    order = list(items)
-    for p in range(r % len(items) + 1):
-        if p < len(items) - 1:
-            q = p + hash3(x, word, p) % (len(items) - p)
-            order[p], order[q] = order[q], order[p]
-    return order[r % len(items)]
-
-
-def descent(tree, bucket, x, rank, kind):
-    """The item of the type that comes first, with its number, or "early" or "empty"."""
-    while tree[bucket][2]:
-        r = rank(tree[bucket])
-        item = chosen(tree, bucket, x, r)
-        if (tree[item][0] if item < 0 else 0) == kind:
-            return item, r
-        if item >= 0:
-            return "early"
-        bucket = item
-    return "empty"
-
-
-def candidate(tree, root, weights, x, kind, rank, more):
-    """What one try comes to: "early", None where it is of no use, or an item with its leaf."""
-    found = descent(tree, root, x, rank, kind)
-    if found == "early":
-        return found
-    if found == "empty":
-        return None
-    item, r = found
-    if item < 0:
-        below = descent(tree, item, x, lambda bucket: r + more, 0)
-        if below == "empty":
-            return None
-    leaf = item if item >= 0 else below[0]
-    weight = weights.get(leaf, IN)
-    is_in = weight >= IN or weight > 0 and hash2(x, leaf) & 0xFFFF < weight
-    return (item, leaf) if is_in else None
-
-
-def first_n(tree, root, weights, x, kind, n):
-    taken = []
-    for rep in range(n):
-        for f in range(51):
-            found = candidate(tree, root, weights, x, kind, lambda bucket: rep + f, 0)
-            if found == "early":
-                break
-            if found and all(found[0] != item and found[1] != leaf for item, leaf in taken):
-                taken.append(found)
-                break
-    return [leaf for _, leaf in taken]
-
-
-def indep(tree, root, weights, x, kind, n):
-    cells = [None] * n
-    for f in range(51):
-        for rep in range(n):
-
-            def rank(bucket):
-                multiple = bucket[1] == "uniform" and len(bucket[2]) % n == 0
-                return rep + (n + 1 if multiple else n) * f
-
-            if cells[rep] is None:
-                found = candidate(tree, root, weights, x, kind, rank, rep)
-                if found == "early" or found and all(found[0] != cell[0] for cell in cells if cell):
-                    cells[rep] = (None, NONE) if found == "early" else found
-    return [cell[1] if cell else NONE for cell in cells]
+def place(tree, root, weights, x, kind, n, is_indep):
+    """The devices of n places."""
+    buckets = {name: Bucket(name, *parts) for name, parts in tree.items()}
+    rule = placement.indep if is_indep else placement.first_n
+    found = rule(placement.Tree(buckets[root], buckets), kind, lambda osd: weights.get(osd, IN), x, n)
+    return [NONE if osd is None else osd for osd in found]
 
 
 # The tools
@@ -297,7 +174,10 @@ def compare_four_words(folder, inputs):
     return count
 
 
-def random_tree(rng):
+ALGS = ("straw2",), ("straw2", "list", "uniform"), ("list", "uniform")  # of the buckets of a tree, in turn
+
+
+def random_tree(rng, algs):
     """A tree of up to four levels, whose devices may stand at different ones, and its root."""
     tree, devices, ids = {}, iter(range(4096)), iter(range(-1, -1000, -1))
 
@@ -306,7 +186,7 @@ def random_tree(rng):
         for _ in range(rng.randint(0 if rng.random() < 0.1 else 1, 6)):
             deeper = kind > 1 and rng.random() < 0.93
             items.append(make(rng.randint(max(1, kind - 2), kind - 1)) if deeper else next(devices))
-        alg = rng.choice(("uniform", "list"))
+        alg = rng.choice(algs)
         weights = [IN if alg == "uniform" else rng.choice((0, 1, 99, IN // 2, IN, 5 * IN)) for _ in items]
         tree[bucket] = (kind, alg, items, weights)
         return bucket
@@ -317,8 +197,8 @@ def random_tree(rng):
 
 def compare_placements(folder, trees):
     rng, count = random.Random(7), 0
-    for _ in range(trees):
-        tree, root = random_tree(rng)
+    for number in range(trees):
+        tree, root = random_tree(rng, ALGS[number % len(ALGS)])
         devices = [item for bucket in tree.values() for item in bucket[2] if item >= 0]
         if not devices:
             continue
@@ -328,10 +208,9 @@ def compare_placements(folder, trees):
         first = rng.choice((0, 0, rng.randrange(2**31 - 100)))
         pool = rng.choice((None, 1, 255))
         found = mappings(folder, tree, root, rule, n, first, first + 63, weights, pool)
-        place = indep if rule[1] else first_n
         for x, osds in found.items():
             real = x if pool is None else hash2(x, pool)
-            ours = place(tree, root, weights, real, rule[0], n)
+            ours = place(tree, root, weights, real, rule[0], n, rule[1])
             count += same(f"{x} of pool {pool}, rule {rule}, {n} places, weights {weights}, tree {tree}", ours, osds)
     return count
 
@@ -339,7 +218,7 @@ def compare_placements(folder, trees):
 def main():
     parser = argparse.ArgumentParser(description="Compares hashing and placement with Ceph's tools.")
     parser.add_argument("--inputs", type=int, default=100, help="inputs of each hash of words")
-    parser.add_argument("--trees", type=int, default=300, help="random trees, of 64 placements each")
+    parser.add_argument("--trees", type=int, default=500, help="random trees, of 64 placements each")
     options = parser.parse_args()
     absent = [tool for tool in ("osdmaptool", "crushtool") if not shutil.which(tool)]
     if absent:
