@@ -13,8 +13,7 @@ use std::marker::Model;
 use std::ptr::null_mut;
 
 /// A pointer to a session on the heap, or null. Its type is that of bytes, since C never looks at what it points to.
-///
-/// It isn't `Drop`: it ends as a box, which frees the session, or as null, which owns nothing.
+#[derive(Drop)]
 #[repr(C)]
 pub struct HeldSession {
     at: *mut u8,
@@ -53,13 +52,6 @@ impl HeldSession {
         ensures { self.session ≡ Some result.value }
     {
         self.into_parts().into_box()
-    }
-
-    /// Lets it go, where it is null.
-    pub fn end(self)
-        requires { self.session ≡ None }
-    {
-        let HeldSession { at: _, alloc: _ } = self;
     }
 
     fn of_parts(parts: Parts<Session, Global>) -> HeldSession
