@@ -183,7 +183,7 @@ class Operator:
         self.followed.append(Followed(len(starts), frees, len(blocked), len(blocked - self.blocked())))
 
     def blocked(self) -> Set[str]:
-        return {group for group, state in self.states.items() if word_of(state) in ("down", "unknown")}
+        return {group for group, state in self.states.items() if word_of(state) != "active"}
 
 
 # What happens
