@@ -52,7 +52,7 @@ def pool_parts(pools: List[Pool], temps: List[Temp], leaves: Dict[int, int]) -> 
 
 def incremental(epoch: int, part: Line) -> Line:
     has_groups = any(pool["kind"] == "grouped" for pool in part.get("pools", ()))
-    has_straw2 = any(bucket["alg"] == "straw2" for bucket in part.get("crush", ()))
+    has_straw2 = any(bucket["alg"] == "straw2" for bucket in part.get("crush") or ())
     version = {"v": 3 if has_straw2 else 2} if has_straw2 or has_groups else {}
     return {"op": "inc", **version, "epoch": epoch, **{key: value for key, value in part.items() if value}}
 
