@@ -1,5 +1,5 @@
 //! What the words of a command line ask for.
-ghost use Rattle.std.specs.Prelude.{◌≡◌, ◌≤◌, Some, None, IfSome};
+ghost use Rattle.std.specs.Prelude.{◌≤◌, IfSome};
 
 use super::commands::{compact_error, explain_error, parse, run_error};
 use clap::error::ErrorKind;
@@ -137,9 +137,7 @@ fn count(text: Option<&str>, least: u8) -> Option<u8>
 }
 
 /// The version that `--format` names, or 2.
-fn format(text: Option<&str>) -> Option<Format>
-    ensures { text ≡ None → result ≡ Some Format.Two }
-{
+fn format(text: Option<&str>) -> Option<Format> {
     let Some(text) = text else {
         return Some(Format::Two);
     };

@@ -8,8 +8,8 @@ write_or_other : (fault : CompactFault) → (fault ≡ Write) ⊎ (fault ≢ Wri
 write_or_other (Script why) = inr (λ is. cc)
 write_or_other Write = inl refl
 
-pub returns-in-Err : goal.returns-in-Err
-returns-in-Err g c =
+pub returns-in-Err-clause-ended : goal.returns-in-Err-clause-ended
+returns-in-Err-clause-ended g c =
     rw c.report_fault.ensures
     (elim (write_or_other c.in-Err.why) [
       | inl write ↦
