@@ -93,21 +93,21 @@ class Examples(WithPrograms):
         patch.start()
         self.addCleanup(patch.stop)
 
-    def names(self, pairs):
-        return [tuple(file.name for file in pair) for pair in pairs]
+    def names(self, found):
+        return [(script.name, wanted.name, *words) for script, wanted, *words in found]
 
     def test_what_was_compacted_is_no_example_of_its_own(self):
-        self.assertEqual(self.names(run_examples.examples()), [("a.jsonl", "a.answers.jsonl")])
-        wanted = [("a.jsonl", "a.compacted.jsonl"), ("a.compacted.jsonl", "a.compacted.jsonl")]
+        self.assertEqual([it[:2] for it in self.names(run_examples.examples())], [("a.jsonl", "a.answers.jsonl")])
+        wanted = [(name, "a.compacted.jsonl", ["compact"]) for name in ("a.jsonl", "a.compacted.jsonl")]
         self.assertEqual(self.names(run_examples.compactions()), wanted)
 
     def test_what_compact_writes_is_compared(self):
         program = self.program(COMPACTS)
-        for script, wanted in run_examples.compactions():
-            self.assertIsNone(run_examples.wrong_example(program, script, wanted, "compact"))
+        for script, wanted, words in run_examples.compactions():
+            self.assertIsNone(run_examples.wrong_example(program, script, wanted, *words))
         (self.room / "examples" / "a.jsonl").write_text("1\n2\n3\n")
-        script, wanted = next(run_examples.compactions())
-        self.assertEqual(run_examples.wrong_example(program, script, wanted, "compact"), "3 lines and not 2")
+        script, wanted, words = next(run_examples.compactions())
+        self.assertEqual(run_examples.wrong_example(program, script, wanted, *words), "3 lines and not 2")
 
 
 if __name__ == "__main__":

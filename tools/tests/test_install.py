@@ -41,7 +41,7 @@ FILES = {
 }
 OPTIONS = {"run": {"--shards", "--workers", "--format"}, "explain": {"--json", "--epoch-offset", "--format"}, "compact": {"--format"}}
 SUBCOMMANDS = {*OPTIONS, "help"}
-OPTION = re.compile(r"(?<![\w-])--[a-z][a-z-]*")
+OPTION = re.compile(r"(?<![\w-])--[a-z][a-z0-9-]*")
 VERBS = ("fetch", "record", "script", "explain", "plan", "what-if", "draw", "report", "map")
 
 
