@@ -148,8 +148,8 @@ class Program(unittest.TestCase):
 
     def test_how_it_is_asked(self):
         stub = self.stub("print(json.dumps(told))")
-        self.assertEqual(group_reasons.explained(stub, ["a", "b"], "1.a").says, "explain 1.a --json: a\nb\n")
-        self.assertEqual(group_reasons.explained(stub, [], "1.a").says, "explain 1.a --json: ")
+        self.assertEqual(group_reasons.explained(stub, ["a", "b"], "1.a").says, "explain 1.a --json --format 3: a\nb\n")
+        self.assertEqual(group_reasons.explained(stub, [], "1.a").says, "explain 1.a --json --format 3: ")
 
     def test_epochs_in_sentences_are_ceph_s_where_they_do_not_follow_each_other(self):
         epochs = Epochs(44, 50, (45, 47))
