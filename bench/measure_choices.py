@@ -3,17 +3,15 @@
 
     bench/measure_choices.py [--program PATH] [--crushtool PATH] [--runs N]
 
-PATH is the built tests (by default crates/pgp_tests/out/pgp_tests_tests), which choose for a million inputs and print how long that
-took, and Ceph's tool (crushtool; Debian: ceph-base), which places one copy of each of 100,000 inputs in a tree of that bucket
-alone. Each is run N times (5), by turns. Prints a table in Markdown: nanoseconds of a choice, in the best run and the median one,
-and the ratio of the best to that of a list bucket.
+PATH is the built tests (by default crates/pgp_tests/out/pgp_tests_tests), which choose for a million inputs, and Ceph's tool
+(crushtool; Debian: ceph-base), which places one copy of each of 100,000 inputs in a tree of that bucket alone. Each is run N times
+(5), by turns. Prints a table in Markdown: nanoseconds of the processor for a choice, the least of the runs and the median, and the
+ratio of the least to that of a list bucket.
 """
 
 import argparse
 import os
-import re
 import statistics
-import subprocess
 import sys
 import tempfile
 
@@ -24,17 +22,12 @@ sys.path.insert(0, f"{HERE}/../tools")
 from compare_with_ceph import IN, text_of  # noqa: E402
 
 ALGS = ("list", "straw2")
-TOOK = re.compile(r"^choices: (\d+), nanoseconds: (\d+)$", re.M)
+CHOICES = 0x10_0000  # of one test, as in crates/pgp_tests/src/choices.rt
 
 
 def by_library(program, alg):
     """Gives the nanoseconds of a choice of the library."""
-    test = f"choices::{alg}_buckets_choose_equal_items_alike"
-    done = subprocess.run([program, test], capture_output=True, text=True)
-    found = TOOK.search(done.stdout)
-    if done.returncode or not found:
-        sys.exit(f"{test}: status {done.returncode}, {done.stdout!r}")
-    return int(found[2]) / int(found[1])
+    return spent(program, f"choices::{alg}_buckets_choose_equal_items_alike") / CHOICES * 1e9
 
 
 def crush_map(tool, alg, folder):

@@ -1,10 +1,9 @@
-//! Buckets of 16 items of equal weight choose each of them about as often. bench/measure_choices.py reads how long that took.
+//! Buckets of 16 items of equal weight choose each of them about as often. bench/measure_choices.py measures how long that takes.
 
 ghost use Rattle.std.specs.Prelude.{◌<◌, length};
 
 use pgp_crush::{Chooser, List, Straw2};
 use std::test::Fail;
-use std::time::{Clock, Instant};
 
 const ITEMS: [i32; 16] = [0, 1, 2, 3, 4, 5, 6, 7, 8, 9, 10, 11, 12, 13, 14, 15];
 
@@ -41,11 +40,7 @@ fn list_buckets_choose_equal_items_alike(rt: HostRuntime) -> Result<(), Fail> {
         items: &ITEMS,
         weights: &WEIGHTS,
     };
-    let start = Instant::now(&rt).ok().expect(&rt, "a clock");
-    let counts = counts(&bucket);
-    let took = start.elapsed(&rt).ok().expect(&rt, "a clock");
-    let _ = println!(rt; "choices: {INPUTS}, nanoseconds: {}", took.as_nanos());
-    assert!(rt; are_alike(&counts));
+    assert!(rt; are_alike(&counts(&bucket)));
     Ok(())
 }
 
@@ -55,10 +50,6 @@ fn straw2_buckets_choose_equal_items_alike(rt: HostRuntime) -> Result<(), Fail> 
         items: &ITEMS,
         weights: &WEIGHTS,
     };
-    let start = Instant::now(&rt).ok().expect(&rt, "a clock");
-    let counts = counts(&bucket);
-    let took = start.elapsed(&rt).ok().expect(&rt, "a clock");
-    let _ = println!(rt; "choices: {INPUTS}, nanoseconds: {}", took.as_nanos());
-    assert!(rt; are_alike(&counts));
+    assert!(rt; are_alike(&counts(&bucket)));
     Ok(())
 }

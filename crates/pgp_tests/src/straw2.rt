@@ -165,7 +165,7 @@ const CHOICES: &str = "
 
 #[test]
 fn each_entry_of_the_tables_decides_as_in_ceph(rt: HostRuntime) -> Result<(), Fail> {
-    let mut rows = 0;
+    let mut rows: u32 = 0;
     for row in CHOICES.split(',') {
         let mut numbers = [0u32; 4];
         for (number, word) in numbers.iter_mut().zip(row.split_whitespace()) {
@@ -180,7 +180,7 @@ fn each_entry_of_the_tables_decides_as_in_ceph(rt: HostRuntime) -> Result<(), Fa
             bucket.choose(x, 0) == chosen as i32,
             "of {x} with {first} and {second}"
         );
-        rows += 1;
+        rows = rows.wrapping_add(1);
     }
     assert!(rt; rows == 770);
     Ok(())
