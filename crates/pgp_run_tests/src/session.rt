@@ -1,5 +1,5 @@
 //! A session answers the longest line that may be, as the library for C gives it, and refuses one that is longer.
-use pgp_core::{LONGEST_LINE, Session};
+use pgp_core::{Format, LONGEST_LINE, Session};
 use std::alloc::{AllocError, Global};
 use std::test::Fail;
 
@@ -16,7 +16,7 @@ fn close_line(alloc: Global, bytes: usize) -> Result<Vec<u8>, AllocError> {
 #[test]
 fn the_longest_line_has_its_answer(rt: HostRuntime) -> Result<(), Fail> {
     let alloc = rt.alloc();
-    let mut session = Session::new(alloc);
+    let mut session = Session::new(alloc, Format::Two);
     let longer = close_line(alloc, LONGEST_LINE + 1)?;
     assert!(rt; session.answer(longer.as_slice()).is_ok());
     assert!(rt; session.last_answer() == b"{\"code\":30,\"refused\":\"LineTooLong\"}\n".as_slice());
