@@ -22,6 +22,8 @@ fn the_longest_line_has_its_answer(rt: HostRuntime) -> Result<(), Fail> {
     assert!(rt; session.last_answer() == b"{\"code\":30,\"refused\":\"LineTooLong\"}\n".as_slice());
     let longest = close_line(alloc, LONGEST_LINE)?;
     assert!(rt; session.answer(longest.as_slice()).is_ok());
-    assert!(rt; session.last_answer() == b"{\"count\":1,\"epoch\":0,\"ok\":\"close\"}\n".as_slice());
+    assert!(rt;
+        session.last_answer() == b"{\"count\":1,\"epoch\":0,\"ok\":\"close\"}\n".as_slice()
+    );
     Ok(())
 }
