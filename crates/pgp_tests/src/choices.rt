@@ -26,11 +26,11 @@ fn counts<C: Chooser>(bucket: &C) -> [u32; 16]
     counts
 }
 
-/// Each of these is within a hundredth of a sixteenth of the inputs.
+/// Each of these is within a sixty-fourth of a sixteenth of the inputs.
 fn are_alike(counts: &[u32]) -> bool {
     counts
         .iter()
-        .all(|count| *count > 64_880 && *count < 66_192)
+        .all(|count| *count > 64_512 && *count < 66_560)
 }
 
 #[test]

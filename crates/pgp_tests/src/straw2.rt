@@ -177,7 +177,7 @@ fn each_entry_of_the_tables_decides_as_in_ceph(rt: HostRuntime) -> Result<(), Fa
             weights: &[first, second],
         };
         assert!(rt;
-            bucket.choose(x, 0) == chosen as i32,
+            bucket.choose(x, 0).cast_unsigned() == chosen,
             "of {x} with {first} and {second}"
         );
         rows = rows.wrapping_add(1);
