@@ -33,7 +33,7 @@ In this order, each part with its count and its seconds:
 `rt run` left. --seed is that of the generated scripts, 1 if not said.
 
 Needs bash, Python and `rt`, a C compiler for two of the statuses and for the last parts, and for the followers etcd, etcdctl,
-`ip`, root and openssl: what lacks one is left out, and a line says so. All parts except the gate take some fourteen minutes on a quiet machine. Each
+`ip`, root and openssl: what lacks one is left out, and a line says so. All parts except the gate take some twenty minutes on a quiet machine. Each
 part has a bound of its own, some four times that, so that a busy machine fails none; one that takes longer has failed. The gate
 says its lines as they come, another part where it failed. Nothing is installed, and no file is left in the tree but in folders
 `out`. The last line is `N passed, M failed`, of all parts together, and the status is 1 where something failed.
@@ -68,7 +68,7 @@ REFUSED_TESTS = (  # in which each allocation is refused: a crate of tests, and 
     ("pgp_thread_tests", ("engine::growths::each_call_can_be_made_again", "feed::memory::one_allocation_may_be_refused")),
     ("pgp_run_tests", ("memory::a_run_goes_on_after_a_refused_allocation",)),
 )
-MOST_SECONDS = 3600  # for all parts except the gate
+MOST_SECONDS = 5400  # for all parts except the gate
 CHECK_BYTES = 5_000_000_000  # more than any check of the gate takes
 SKIPPED = 3  # the status of a part that says in its own words that it was skipped
 MOST_SHOWN = 4000  # characters of what a failed part said
@@ -172,7 +172,7 @@ def before_gate() -> List[Part]:
     return [
         Part("links of documents", python("tools/check_links.py"), 60, tried_and_wrong),
         Part("tests of tools/", tests_in("tools"), 900, unit_tests),
-        Part("tests of ceph/", tests_in("ceph"), 900, unit_tests),
+        Part("tests of ceph/", tests_in("ceph"), 1800, unit_tests),
         Part("tests of fuzz/", tests_in("fuzz"), 900, unit_tests),
         Part("tests of follow/", tests_in("follow"), 900, unit_tests),
     ]
@@ -198,7 +198,7 @@ def after_gate(seed: str) -> List[Part]:
     sweep = python("tools/refuse_allocations.py", PROGRAM)
     return [
         Part("tests of tools/, with the program", tests_in("tools"), 900, unit_tests, program=PROGRAM),
-        Part("tests of ceph/, with the program", tests_in("ceph"), 900, unit_tests, program=PROGRAM),
+        Part("tests of ceph/, with the program", tests_in("ceph"), 1800, unit_tests, program=PROGRAM),
         Part("examples", python("tools/run_examples.py"), 300, tried_and_wrong),
         Part("statuses", python("tools/check_statuses.py"), 300, tried_and_wrong),
         Part("workers", python("tools/compare_workers.py", "--stored", "--seconds", 30), 400, compared_runs),
