@@ -91,7 +91,7 @@ class Record(test_fetch.Fetch):
 class Rounds(Record):
     def test_the_first_round_keeps_what_fetch_keeps(self):
         self.record("--from", 60)
-        fixed = {"60.crush.json", "pgs.json", "df.json", "fetch.json", ".lock"}
+        fixed = {"60.crush.json", "62.osdmap", "pgs.json", "df.json", "fetch.json", ".lock"}
         fixed |= {f"{epoch}.{kind}" for epoch in (60, 61, 62) for kind in ("osd.json", "groups.txt")}
         fixed |= {f"{pg}.query.json" for pg in ("3.0", "3.3", "4.0")}  # of those that aren't active; 4.1 has no answer
         self.assertLessEqual(fixed, self.names())

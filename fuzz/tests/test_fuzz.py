@@ -95,7 +95,7 @@ class Scripts(unittest.TestCase):
 
     def test_what_else_lines_are_is_counted(self):
         figures = fuzz.Figures()
-        for seed in range(4):
+        for seed in range(12):
             script = fuzz.story(random.Random(seed), fuzz.repository_lines())
             figures.count("story", script, fuzz.Run(script.wanted(), 0, b""), None)
         text = figures.text()
