@@ -1,5 +1,5 @@
 -- What buckets choose, place by place.
-use Rattle.std.proofs.Common.{◌≡◌, ℕ, cond, zero, suc, ◌+◌, ◌-◌, ◌^◌, ◌<◌, ◌≤◌, Bool, nat_eq, false, ℤ, pos, List, ◌∷◌, length, slice_get, slice_index, slice_index_or, slice_set, inl, inr, refl, arith, ap, ◌∙◌, add-one, Some, None}
+use Rattle.std.proofs.Common.{◌≡◌, ◌≢◌, ◌%◌, ℕ, cond, zero, suc, ◌+◌, ◌-◌, ◌^◌, ◌<◌, ◌≤◌, Bool, nat_eq, false, ℤ, pos, List, ◌∷◌, length, slice_get, slice_index, slice_index_or, slice_set, inl, inr, refl, arith, ap, ◌∙◌, add-one, Some, None}
 use Rattle.std.proofs.Math.Nat.{div-le_self}
 use Rattle.std.proofs.lemmas.Bool.{cases_Bool, cases_lt}
 use Rattle.std.proofs.lemmas.Grind.{common_steps}
@@ -12,7 +12,8 @@ use Rattle.pgp_ids.specs.declared.bucket.BucketAlg.TheVariants.{Uniform, List as
 use Rattle.pgp_crush.specs.Bucket.{Bucket}
 use Rattle.pgp_crush.specs.Least.{greatest_below}
 use Rattle.pgp_crush.specs.Chosen.{uniform_place_within, list_place_within, straw2_place_within}
-use Rattle.pgp_crush.specs.Choice.{word_of, place_before, traced_back, uniform_place, weight_passes, list_place, draw, straw2_place, choice}
+use Rattle.pgp_crush.specs.Choice.{word_of, place_before, traced_back, uniform_place, weight_passes, list_place, draw, hash_at, draw_at, straw2_place, choice}
+use Rattle.pgp_crush.proofs.LeastLemmas.{first_least-kept}
 use Rattle.pgp_crush.specs.Logarithm.{logarithm}
 
 -- ---- uniform buckets
@@ -60,6 +61,15 @@ draw_within hash weight = elim (cases_Bool (nat_eq weight 0)) [
   | inl none ↦ rw none (omega arith)
   | inr some ↦ rw some (omega (arith, div-le_self (2 ^ 48 - logarithm hash) weight))
 ]
+
+-- a changed weight moves only what leaves its item or comes to it
+pub weight_moves_its_item : (x r : ℕ) (items : List ℤ) (weights : List ℕ) (i weight : ℕ) → 0 < length items → straw2_place x r items weights ≢ i
+    → straw2_place x r items (slice_set weights i weight) ≢ i → straw2_place x r items (slice_set weights i weight) ≡ straw2_place x r items weights
+unfolding straw2_place
+weight_moves_its_item x r items weights i weight some before after =
+    first_least-kept (draw_at x r items weights) (draw_at x r items (slice_set weights i weight)) (2 ^ 63) (length items) i some
+    (λ j. draw_within _ _) (λ j. draw_within _ _)
+    (λ j other. ap (λ w. draw (hash_at x r items j % 2 ^ 16) w) (get_or-set_other weights i j weight 0 other)) before after
 
 -- one place more of a list is as f says
 pub filled : (f : ℕ → ℕ) (xs : List ℕ) (k v : ℕ) → k < length xs → v ≡ f k → ((j : ℕ) → j < k → slice_index xs j ≡ f j)

@@ -1,5 +1,5 @@
 -- The least number that passes a test.
-use Rattle.std.proofs.Common.{◌≡◌, ◌≢◌, ◌<◌, ◌≤◌, ℕ, ◌+◌, zero, suc, Bool, true, false, ◌&&◌, cond, nat_lt, is_none, refl, arith, ap, sym, ◌∙◌, inl, inr, Option, Some, None}
+use Rattle.std.proofs.Common.{◌≡◌, unwrap_or, ◌≢◌, ◌<◌, ◌≤◌, ℕ, ◌+◌, zero, suc, Bool, true, false, ◌&&◌, cond, nat_lt, is_none, refl, arith, ap, sym, ◌∙◌, inl, inr, Option, Some, None, subst, add-one}
 use Rattle.std.specs.Option.{option_map_or}
 use Rattle.std.proofs.lemmas.Bool.{cases_Bool, cases_eq, cases_lt}
 use Rattle.std.proofs.lemmas.Bool.Decides.{nat_tests}
@@ -124,3 +124,49 @@ leads-is f limit n place least some had =
     fails j above before =
         let less : nat_lt (f place) (f j) ≡ true = (let at : least ≡ f place = (had.leader some).1 in let below : least < f j = had.before j before in grind (arith, nat_tests)) in
         least_from-some (λ q. nat_lt (f q) (f j)) 0 n place (omega arith) (omega (arith, (had.leader some).0)) less
+
+-- where the leader is, and what it has
+record Leader (f : ℕ → ℕ) (limit n : ℕ) : Type 0 where
+  place : ℕ
+  least : ℕ
+  leads : Leads f limit n place least
+
+leader : (f : ℕ → ℕ) (limit n : ℕ) → ((j : ℕ) → f j ≤ limit) → Leader f limit n
+leader f limit zero within = record { place = 0; least = limit; leads = leads-none f limit }
+leader f limit (suc n) within =
+    let had = leader f limit n within in
+    elim (cases_lt (f n) had.least) [
+      | inl less ↦ record {
+        place = n;
+        least = f n;
+        leads = subst (λ (k : ℕ). Leads f limit k n (f n)) (add-one n) (leads-next f limit n had.place had.least had.leads less);
+      }
+      | inr not_less ↦ record {
+        place = had.place;
+        least = had.least;
+        leads = subst (λ (k : ℕ). Leads f limit k had.place had.least) (add-one n) (leads-on f limit n had.place had.least had.leads not_less (within n));
+      }
+    ]
+
+-- two functions that differ at one number alone are least first at the same number, unless one is at that
+pub first_least-kept : (f g : ℕ → ℕ) (limit n i : ℕ) → 0 < n → ((j : ℕ) → f j ≤ limit) → ((j : ℕ) → g j ≤ limit) → ((j : ℕ) → j ≢ i → g j ≡ f j)
+    → unwrap_or (first_least f n) 0 ≢ i → unwrap_or (first_least g n) 0 ≢ i → unwrap_or (first_least g n) 0 ≡ unwrap_or (first_least f n) 0
+first_least-kept f g limit n i some f_within g_within alike f_other g_other =
+    let ours = leader f limit n f_within in
+    let theirs = leader g limit n g_within in
+    let f_at : unwrap_or (first_least f n) 0 ≡ ours.place = ap (λ o. unwrap_or o 0) (leads-is f limit n ours.place ours.least some ours.leads) in
+    let g_at : unwrap_or (first_least g n) 0 ≡ theirs.place = ap (λ o. unwrap_or o 0) (leads-is g limit n theirs.place theirs.least some theirs.leads) in
+    let f_leader = ours.leads.leader some in
+    let g_leader = theirs.leads.leader some in
+    let at_ours : g ours.place ≡ f ours.place = alike ours.place (λ e. f_other (f_at ∙ e)) in
+    let at_theirs : g theirs.place ≡ f theirs.place = alike theirs.place (λ e. g_other (g_at ∙ e)) in
+    let ours_least : ours.least ≤ f theirs.place = ours.leads.each theirs.place g_leader.0 in
+    let theirs_least : theirs.least ≤ g ours.place = theirs.leads.each ours.place f_leader.0 in
+    let same : theirs.place ≡ ours.place = elim (cases_lt ours.place theirs.place) [
+      | inl earlier ↦ (let less : theirs.least < g ours.place = theirs.leads.before ours.place earlier in absurd (omega (arith, f_leader.1, g_leader.1)))
+      | inr not_earlier ↦ elim (cases_lt theirs.place ours.place) [
+        | inl later ↦ (let less : ours.least < f theirs.place = ours.leads.before theirs.place later in absurd (omega (arith, f_leader.1, g_leader.1)))
+        | inr not_later ↦ omega arith
+      ]
+    ] in
+    g_at ∙ same ∙ sym f_at

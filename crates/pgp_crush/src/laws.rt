@@ -1,7 +1,7 @@
 //! Worked examples that the definitions compute, and that the table of an erasure pool's placement is one and the only one.
 #![tactic(auto, unfolding(crate::specs::Worked::placements_computed))]
 
-ghost use Rattle.std.specs.Prelude.{◌≡◌, ◌≤◌, ℕ, ℤ, ◌+◌, ◌*◌, pos, negsuc, [], ◌∷◌, Some, None, true, List, Option, Contains, length, map, sum};
+ghost use Rattle.std.specs.Prelude.{◌≡◌, ◌≢◌, ◌<◌, slice_set, ◌≤◌, ℕ, ℤ, ◌+◌, ◌*◌, pos, negsuc, [], ◌∷◌, Some, None, true, List, Option, Contains, length, map, sum};
 ghost use Rattle.pgp_ids.specs.Osds.{first_osd, osd_count};
 ghost use Rattle.pgp_crush.specs.declared.fault.TreeFault.TheVariants.{NoRoot, TwiceHeld, WrongType, Unknown, TooDeep, TooMany, WeightSum};
 ghost use Rattle.pgp_crush.specs.declared.descent.Rank.{Rank};
@@ -9,7 +9,7 @@ ghost use Rattle.pgp_crush.specs.declared.descent.Rank.TheVariants.{Same};
 ghost use Rattle.pgp_crush.specs.declared.descent.Step.{Step};
 ghost use Rattle.pgp_crush.specs.declared.descent.Descent.TheVariants.{Early, Empty};
 ghost use Rattle.pgp_crush.specs.Candidate.{Input, input_of};
-ghost use Rattle.pgp_crush.specs.Choice.{choice};
+ghost use Rattle.pgp_crush.specs.Choice.{straw2_place, choice};
 ghost use Rattle.pgp_crush.specs.Logarithm.{reciprocal, coarse_log, fine_log, logarithm};
 ghost use Rattle.pgp_crush.specs.Descent.{path, descent};
 ghost use Rattle.pgp_crush.specs.FirstN.{first_n};
@@ -78,6 +78,12 @@ pub fn straw2_corners()
     ensures one_weight { choice 6 0 (straw2 (pos 4 ∷ pos 5 ∷ pos 6 ∷ []) (0 ∷ 1 ∷ 0 ∷ [])) ≡ Some (pos 5) }
     ensures equal_draws { choice 55260 0 (straw2 (pos 0 ∷ pos 1 ∷ []) (2147483648 ∷ 2147483647 ∷ [])) ≡ Some (pos 0) }
     ensures rounded_down { choice 193 0 (straw2 (pos 0 ∷ pos 1 ∷ []) (67657 ∷ 3219271 ∷ [])) ≡ Some (pos 1) }
+{}
+
+/// Where the weight of one item changes, a straw2 bucket chooses as before, unless it chose that item or chooses it now.
+pub fn a_weight_moves_its_item_alone()
+    ensures { (x r : ℕ) (items : List ℤ) (weights : List ℕ) (i weight : ℕ) → 0 < length items → straw2_place x r items weights ≢ i
+        → straw2_place x r items (slice_set weights i weight) ≢ i → straw2_place x r items (slice_set weights i weight) ≡ straw2_place x r items weights }
 {}
 
 /// Logarithms of hashes.
