@@ -19,7 +19,7 @@ HAS_PROGRAM = pathlib.Path(PROGRAM).is_file()
 
 @unittest.skipUnless(HAS_PROGRAM, f"no program {PROGRAM}")
 class Agreement(unittest.TestCase):
-    """The groups of each kept map lie where `osdmaptool` said, except those of straw2 buckets."""
+    """The groups of each kept map lie where `osdmaptool` said."""
 
     def test_groups_agree_as_recorded(self):
         recorded = json.loads((MAPS / "agreement.json").read_text())
