@@ -285,6 +285,10 @@ class LargeCluster:
         members = [(osd, at if group.kind.k else None) for at, osd in enumerate(group.acting) if osd is not None]
         if not members:
             return None
+        if "peered" in self.state(group):  # it has heard who is up of past intervals, too
+            were = ((osd, at if group.kind.k else None) for span in group.past for at, osd in enumerate(span.acting)
+                    if osd is not None and self.devices[osd].up)
+            members += [it for it in dict.fromkeys(were) if it not in members]
         names = [f"{osd}({shard})" if group.kind.k else str(osd) for osd, shard in members]
         peers = [{"peer": name, **self.info(group, shard)} for name, (_, shard) in zip(names[1:], members[1:])]
         if self.state(group) == "down":
