@@ -9,8 +9,8 @@ fn scripts_have_their_answers() {
         let path = entry.unwrap().path();
         let name = path.to_string_lossy().into_owned();
         let stem = match name.strip_suffix(".answers.jsonl") {
-            Some(stem) => stem,
-            None => continue,
+            Some(stem) if !stem.ends_with(".format3") => stem, // these are of sessions that read version 3
+            _ => continue,
         };
         let mut session = pgpeer::Session::open().unwrap();
         let mut told: Vec<u8> = Vec::new();
