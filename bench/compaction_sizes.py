@@ -3,7 +3,7 @@
 
     bench/compaction_sizes.py [--program PATH]
 
-PATH is the built program (by default crates/pgpeer/out/pgpeer). Prints a table in Markdown, a line for each log:
+Prints a table in Markdown, a line for each log:
 
   toggled         40 epochs, in each of which the size of a pool changes and its primary is recorded as up; in each a group of
                   it reports that it serves since then and is clean
@@ -18,14 +18,12 @@ The columns are the entries of the log, the incrementals among them, the infos t
 log was full, the lines that it didn't take are told of too. Exits with 1 where a run failed.
 """
 
-import argparse
-import os
 import re
 import subprocess
 import sys
 
 from maps import DEVICE, compact, tree
-from measure import HERE, table
+from measure import command_line, table
 
 SAID = re.compile(r"left out (\d+) of (\d+) entries(?:; (\d+) lines? w)?")
 
@@ -120,6 +118,5 @@ def main(program):
 
 
 if __name__ == "__main__":
-    parser = argparse.ArgumentParser(description=__doc__, formatter_class=argparse.RawDescriptionHelpFormatter)
-    parser.add_argument("--program", default=f"{HERE}/../crates/pgpeer/out/pgpeer", type=os.path.abspath)
+    parser = command_line(__doc__)
     main(parser.parse_args().program)

@@ -15,7 +15,7 @@ import os
 import subprocess
 import sys
 
-from measure import HERE, NAMES, alternate, ratio, seconds, table
+from measure import HERE, NAMES, alternate, ratio, scripts, seconds, table
 
 
 def answers(command, script):
@@ -35,8 +35,7 @@ def row(name, before, after, script, runs):
 
 def main(options):
     before, after = ([os.path.abspath(program), "run"] for program in (options.before, options.after))
-    scripts = ((name, f"{options.inputs}/{name}.jsonl") for name in options.names or NAMES)
-    rows = [row(name, before, after, script, options.runs) for name, script in scripts]
+    rows = [row(name, before, after, script, options.runs) for name, script in scripts(options, NAMES)]
     print(table(["script", "before", "after", "after / before"], [it for it in rows if it]))
 
 

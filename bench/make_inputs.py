@@ -48,10 +48,10 @@ Writes into FOLDER (by default bench/out) these files, or those named alone, whi
 and beside each NAME.jsonl a NAME.tenth.jsonl with the first tenth of its lines.
 """
 
+import argparse
 import json
 import os
 import random
-import sys
 
 from full_logs import full_entries, full_infos
 from maps import DEVICE, HOST, IN, RACK, compact, copies, told, tree
@@ -434,7 +434,10 @@ def main(folder, names):
 
 
 if __name__ == "__main__":
-    if sys.argv[1:2] in (["-h"], ["--help"]) or not INPUTS.keys() >= set(sys.argv[2:]):
-        sys.exit(__doc__)
-    folder = sys.argv[1] if sys.argv[1:] else os.path.join(os.path.dirname(os.path.abspath(__file__)), "out")
-    main(folder, sys.argv[2:] or INPUTS)
+    parser = argparse.ArgumentParser(description=__doc__, formatter_class=argparse.RawDescriptionHelpFormatter)
+    parser.add_argument("folder", metavar="FOLDER", nargs="?", default=os.path.join(os.path.dirname(os.path.abspath(__file__)), "out"))
+    parser.add_argument("names", metavar="NAME", nargs="*")
+    options = parser.parse_args()
+    if not INPUTS.keys() >= set(options.names):
+        parser.error(f"a NAME is one of {', '.join(INPUTS)}")
+    main(options.folder, options.names or INPUTS)

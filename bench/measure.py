@@ -3,8 +3,7 @@
 
     bench/measure.py [--program PATH] [--inputs FOLDER] [--runs N] [NAME...]
 
-PATH is the built program (by default crates/pgpeer/out/pgpeer) and FOLDER what make_inputs.py wrote (by default
-bench/out). NAME is one of those that make_inputs.py names; without one all are run. The yardsticks are `jq -c .` and
+FOLDER is what make_inputs.py wrote (by default bench/out). NAME is one of those that make_inputs.py names; without one all are run. The yardsticks are `jq -c .` and
 bench/read_and_write.py, which read and print the same lines. The three run N times each (by default 5), by turns, one at
 a time, and print to nowhere; then jq runs N times on the program's answers. Prints three tables in Markdown, of time, of
 time beside the answers, and of memory. Needs jq and GNU time (Debian: jq and time).
@@ -13,7 +12,6 @@ Seconds are of the processor, in the program and in the system on its behalf, si
 the machine does. A script to whose lines the program doesn't answer `ok`, each in turn, is told of and not measured.
 """
 
-import argparse
 import os
 import shutil
 import statistics
@@ -24,6 +22,10 @@ import time
 from typing import NamedTuple
 
 HERE = os.path.dirname(os.path.abspath(__file__))
+sys.path.append(f"{HERE}/../dev")
+
+from built import command_line  # noqa: E402
+
 NAMES = (
     *("locate", "incs", "map", "steps", "full", "peering", "peering_wide", "churn", "churn_twice"),
     *("churn_wide", "full_asked", "reweights", "reweights_out", "asks", "untouched", "untouched_twice"),
@@ -58,6 +60,24 @@ def line_count(script):
         return sum(1 for _ in lines)
 
 
+def command_line_of_scripts(about):
+    """Gives a script's command line, with options for the program, the folder of scripts and the number of runs, and names."""
+    parser = command_line(about)
+    parser.add_argument("--inputs", default=f"{HERE}/out")
+    parser.add_argument("--runs", type=int, default=5)
+    parser.add_argument("names", nargs="*", metavar="NAME")
+    return parser
+
+
+def scripts(options, names):
+    """Gives the scripts that are asked for, by name, or those of these names; one that isn't there ends the run."""
+    for name in options.names or names:
+        script = f"{options.inputs}/{name}.jsonl"
+        if not os.path.exists(script):
+            sys.exit(f"{script} isn't there. bench/make_inputs.py makes it")
+        yield name, script
+
+
 def answer(command, script, answers):
     """Writes the program's answers to the script to the file `answers`."""
     with open(script, "rb") as lines, open(answers, "wb") as out:
@@ -83,9 +103,9 @@ def alternate(commands, script, runs, errors=None):
     return found
 
 
-def seconds(runs):
-    """Gives the least seconds of the processor, and the median."""
-    values = [it.cpu for it in runs]
+def seconds(runs, part="cpu"):
+    """Gives the least seconds, of the processor or elapsed, and the median."""
+    values = [getattr(it, part) for it in runs]
     return f"{min(values):.3f} / {statistics.median(values):.3f}"
 
 
@@ -134,7 +154,7 @@ def lacking(options):
     for command, how in ((options.program, "`rt run` in crates/pgpeer builds it"), ("jq", ""), ("/usr/bin/time", "")):
         if not shutil.which(command):
             return f"{command} isn't there. {how}"
-    return None if os.path.isdir(options.inputs) else f"{options.inputs} isn't there. bench/make_inputs.py makes it"
+    return None
 
 
 def main(options):
@@ -146,11 +166,10 @@ def main(options):
 
 def print_tables(options, answers):
     """Measures each script, with the program's answers to it in the file `answers`, and prints the tables."""
-    ours, jq = [os.path.abspath(options.program), "run"], ["jq", "-c", "."]
+    ours, jq = [options.program, "run"], ["jq", "-c", "."]
     python = [sys.executable, "-S", "-E", f"{HERE}/read_and_write.py"]
     times, both, memory = [], [], []
-    for name in options.names or NAMES:
-        script, tenth = f"{options.inputs}/{name}.jsonl", f"{options.inputs}/{name}.tenth.jsonl"
+    for name, script in scripts(options, NAMES):
         answer(ours, script, answers)
         fault = fault_of(script, answers)
         if fault:
@@ -159,7 +178,7 @@ def print_tables(options, answers):
         runs = alternate([ours, jq, python], script, options.runs)
         times.append(time_row(name, script, *runs))
         both.append(both_row(name, answers, *runs[:2], *alternate([jq], answers, options.runs)))
-        memory.append(memory_row(name, *runs[:2], alternate([ours], tenth, 1)))
+        memory.append(memory_row(name, *runs[:2], alternate([ours], f"{options.inputs}/{name}.tenth.jsonl", 1)))
     head = ["script", "lines", "bytes", "pgpeer, s", "jq, s", "Python, s", "ratio to jq", "ratio to Python"]
     print(table([*head, "lines a second"], times), end="\n\n")
     print(table(["script", "bytes of answers", "pgpeer, s", "jq on lines and answers, s", "ratio"], both), end="\n\n")
@@ -167,9 +186,4 @@ def print_tables(options, answers):
 
 
 if __name__ == "__main__":
-    parser = argparse.ArgumentParser(description=__doc__, formatter_class=argparse.RawDescriptionHelpFormatter)
-    parser.add_argument("--program", default=f"{HERE}/../crates/pgpeer/out/pgpeer")
-    parser.add_argument("--inputs", default=f"{HERE}/out")
-    parser.add_argument("--runs", type=int, default=5)
-    parser.add_argument("names", nargs="*", metavar="NAME")
-    main(parser.parse_args())
+    main(command_line_of_scripts(__doc__).parse_args())

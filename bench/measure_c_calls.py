@@ -3,7 +3,7 @@
 
     bench/measure_c_calls.py [--library FOLDER] [--program PATH] [--crushtool PATH] [--runs N] [--limits]
 
-FOLDER is what tools/build_c_library.sh made (by default crates/pgp_c/out/c), PATH the built program (crates/pgpeer/out/pgpeer)
+FOLDER is what tools/build_c_library.sh made (by default crates/pgp_c/out/c)
 and Ceph's tool (crushtool; Debian: ceph-base); what isn't there is left out. The map has 256 devices in 32 hosts in 8 racks, and
 a pool of 1,024 groups of three copies on different hosts. crushtool places inputs by the same tree and rule. The questions are
 about the group of the script `asks`. Each is run N times (by default 5), by turns, one at a time. Prints a table in Markdown:
@@ -14,7 +14,6 @@ With --limits it prints the memory and the time of a session at the limits in pl
 that make the largest map, ask for each group, tell three infos of each, and fill the log. Needs GNU time (Debian: time) too.
 """
 
-import argparse
 import itertools
 import os
 import random
@@ -25,10 +24,9 @@ import sys
 import tempfile
 
 from make_inputs import HOST, IN, INPUTS as SCRIPTS, compact, copies, outage_of_one, tree
-from measure import HERE, measure, table
+from measure import HERE, command_line, measure, table
 
-sys.path.insert(0, f"{HERE}/../tools")
-from compare_with_ceph import text_of  # noqa: E402
+from compare_with_ceph import text_of
 
 ASKS, KEPT, ROUNDS, INPUTS, LINES = 400_000, 2_000_000, 20, 100_000, 200_000
 
@@ -173,9 +171,8 @@ def main(options):
 
 
 if __name__ == "__main__":
-    parser = argparse.ArgumentParser(description=__doc__, formatter_class=argparse.RawDescriptionHelpFormatter)
+    parser = command_line(__doc__)
     parser.add_argument("--library", default=f"{HERE}/../crates/pgp_c/out/c", type=os.path.abspath)
-    parser.add_argument("--program", default=f"{HERE}/../crates/pgpeer/out/pgpeer")
     parser.add_argument("--crushtool", default="crushtool")
     parser.add_argument("--runs", type=int, default=5)
     parser.add_argument("--limits", action="store_true")

@@ -12,14 +12,12 @@ ratio of the least to that of a list bucket.
 import argparse
 import os
 import statistics
-import sys
 import tempfile
 
 from measure import HERE, table
 from measure_c_calls import INPUTS, run, spent
 
-sys.path.insert(0, f"{HERE}/../tools")
-from compare_with_ceph import IN, text_of  # noqa: E402
+from compare_with_ceph import IN, text_of
 
 ALGS = ("list", "straw2")
 CHOICES = 0x10_0000  # of one test, as in crates/pgp_tests/src/choices.rt

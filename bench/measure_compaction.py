@@ -3,7 +3,7 @@
 
     bench/measure_compaction.py [--program PATH] [--inputs FOLDER] [--runs N] [NAME...]
 
-PATH is the built program (by default crates/pgpeer/out/pgpeer) and FOLDER what make_inputs.py wrote (by default
+FOLDER is what make_inputs.py wrote (by default
 bench/out). NAME is one of those that make_inputs.py names; without one it is full_infos, full_entries and full. On each
 script `run` and `compact` run N times each (by default 5), by turns, one at a time, and print to nowhere; then `run`
 answers the script, and what `compact` wrote of it, each with a question about group 0 of pool 1 behind it. Prints two
@@ -14,7 +14,6 @@ answered, to its answer, the least and the median. A script is told of and not m
 than the count, or where what was written is another once it is compacted again. Needs GNU time (Debian: time).
 """
 
-import argparse
 import os
 import re
 import statistics
@@ -24,7 +23,7 @@ import tempfile
 import threading
 import time
 
-from measure import HERE, alternate, line_count, ratio, seconds, table
+from measure import alternate, command_line_of_scripts, line_count, ratio, scripts, seconds, table
 
 NAMES = ("full_infos", "full_entries", "full")
 QUESTION = b'{"op":"ask","pg":[1,0]}\n'
@@ -101,10 +100,7 @@ def rows(name, script, options, folder):
 
 def main(options):
     found = []
-    for name in options.names or NAMES:
-        script = f"{options.inputs}/{name}.jsonl"
-        if not os.path.exists(script):
-            sys.exit(f"{script} isn't there. bench/make_inputs.py makes it")
+    for name, script in scripts(options, NAMES):
         with tempfile.TemporaryDirectory() as folder:
             found.append(rows(name, script, options, folder))
     first, second = zip(*(it for it in found if it)) if any(found) else ((), ())
@@ -115,9 +111,4 @@ def main(options):
 
 
 if __name__ == "__main__":
-    parser = argparse.ArgumentParser(description=__doc__, formatter_class=argparse.RawDescriptionHelpFormatter)
-    parser.add_argument("--program", default=f"{HERE}/../crates/pgpeer/out/pgpeer", type=os.path.abspath)
-    parser.add_argument("--inputs", default=f"{HERE}/out")
-    parser.add_argument("--runs", type=int, default=5)
-    parser.add_argument("names", nargs="*", metavar="NAME")
-    main(parser.parse_args())
+    main(command_line_of_scripts(__doc__).parse_args())

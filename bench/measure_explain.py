@@ -3,7 +3,7 @@
 
     bench/measure_explain.py [--program PATH] [--inputs FOLDER] [--runs N] [NAME...]
 
-PATH is the built program (by default crates/pgpeer/out/pgpeer) and FOLDER what make_inputs.py wrote (by default bench/out).
+FOLDER is what make_inputs.py wrote (by default bench/out).
 NAME is one of those that make_inputs.py names; without one it is map_asked and down_asked, which ask for each of their 16,384
 groups, and map, which asks for none. On each script `run` and `explain` run N times each (by default 5), by turns, one at a
 time, and print to nowhere. Prints a table in Markdown: the seconds of the processor, the least and the median, the ratio of
@@ -11,12 +11,9 @@ time, and print to nowhere. Prints a table in Markdown: the seconds of the proce
 refused is told of and not measured. Needs GNU time (Debian: time).
 """
 
-import argparse
-import os
 import subprocess
-import sys
 
-from measure import HERE, alternate, line_count, ratio, seconds, table
+from measure import alternate, command_line_of_scripts, line_count, ratio, scripts, seconds, table
 
 NAMES = ("map_asked", "down_asked", "map")
 MOST_VERDICTS = 4  # that a summary names
@@ -43,19 +40,11 @@ def row(name, script, options):
 
 def main(options):
     found = []
-    for name in options.names or NAMES:
-        script = f"{options.inputs}/{name}.jsonl"
-        if not os.path.exists(script):
-            sys.exit(f"{script} isn't there. bench/make_inputs.py makes it")
+    for name, script in scripts(options, NAMES):
         found.append(row(name, script, options))
     head = ["script", "lines", "run, s", "explain, s", "explain / run", "what explain counts"]
     print(table(head, [it for it in found if it]))
 
 
 if __name__ == "__main__":
-    parser = argparse.ArgumentParser(description=__doc__, formatter_class=argparse.RawDescriptionHelpFormatter)
-    parser.add_argument("--program", default=f"{HERE}/../crates/pgpeer/out/pgpeer", type=os.path.abspath)
-    parser.add_argument("--inputs", default=f"{HERE}/out")
-    parser.add_argument("--runs", type=int, default=5)
-    parser.add_argument("names", nargs="*", metavar="NAME")
-    main(parser.parse_args())
+    main(command_line_of_scripts(__doc__).parse_args())

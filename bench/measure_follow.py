@@ -9,7 +9,6 @@ line, and asks each follower with the line's place as `after`: what is measured 
 the answers. Prints a table in Markdown. Needs etcd and the built program.
 """
 
-import argparse
 import pathlib
 import random
 import statistics
@@ -96,8 +95,7 @@ def until_all_answer(ports: Sequence[int], lines: Sequence[bytes]) -> List[float
 
 
 def main() -> None:
-    parser = argparse.ArgumentParser(description=__doc__, formatter_class=argparse.RawDescriptionHelpFormatter)
-    parser.add_argument("--program", default=str(cluster.PROGRAM), metavar="PATH")
+    parser = cluster.command_line(__doc__)
     parser.add_argument("--questions", type=int, default=40_000, metavar="N")
     parser.add_argument("--appends", type=int, default=10_000, metavar="N")
     parser.add_argument("--rounds", type=int, default=300, metavar="N")

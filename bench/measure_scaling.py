@@ -3,7 +3,7 @@
 
     bench/measure_scaling.py [--program PATH] [--runs R] [--instructions]
 
-PATH is the built program (by default crates/pgpeer/out/pgpeer), or another that reads a script where it is called without an
+PATH may also be a program that reads a script where it is called without an
 argument, as that of pgp_scripts. Each script makes a number of groups of two copies on a quarter as many devices, so that eight
 groups lie on a device on average, and asks about each of them. Then come incrementals of which each takes one device down or
 boots one, with a single question at the end or with one after each, about a group on the device. Each script is run R times
@@ -15,7 +15,6 @@ With --instructions it counts by valgrind (Debian: valgrind) how many instructio
 what it does, whatever the machine's caches hold.
 """
 
-import argparse
 import json
 import os
 import random
@@ -26,7 +25,7 @@ from functools import partial
 
 from make_inputs import fall_or_boot
 from maps import HOST, compact, tree
-from measure import HERE, alternate, table
+from measure import alternate, command_line, table
 
 SIZES = (256, 1024, 4096, 16_384)
 COUNTS = (2_000, 4_000)
@@ -118,7 +117,7 @@ def rows(measure, digits, command, folder, each):
 
 
 def main(options):
-    program = os.path.abspath(options.program)
+    program = options.program
     command = [program, "run"] if os.path.basename(program) == "pgpeer" else [program]
     if options.instructions:
         unit, digits, measure = "instructions", 0, partial(instructions, command)
@@ -132,8 +131,7 @@ def main(options):
 
 
 if __name__ == "__main__":
-    parser = argparse.ArgumentParser(description=__doc__, formatter_class=argparse.RawDescriptionHelpFormatter)
-    parser.add_argument("--program", default=f"{HERE}/../crates/pgpeer/out/pgpeer")
+    parser = command_line(__doc__)
     parser.add_argument("--runs", type=int, default=5)
     parser.add_argument("--instructions", action="store_true")
     main(parser.parse_args())

@@ -3,7 +3,7 @@
 
     bench/measure_workers.py [--program PATH] [--inputs FOLDER] [--runs N] [--shards S] [--workers W...] [NAME...]
 
-PATH is the built program (by default crates/pgpeer/out/pgpeer) and FOLDER what make_inputs.py wrote (by default
+FOLDER is what make_inputs.py wrote (by default
 bench/out). NAME is one of those that make_inputs.py names; without one it is those of the table in README.md. Each
 script is answered without workers and with each W (by default 1, 2 and 4) and S shards (4), N times each (5), by turns,
 one at a time, and the answers go to nowhere. Prints a table in Markdown: the elapsed seconds and those of the processor,
@@ -14,13 +14,9 @@ Seconds change with what else the machine does, so each is the least and the med
 the median of the ratios of two runs that stood side by side.
 """
 
-import argparse
-import os
-import statistics
 import subprocess
-import sys
 
-from measure import HERE, alternate, line_count, ratio, table
+from measure import alternate, command_line_of_scripts, line_count, ratio, scripts, seconds, table
 
 NAMES = ("down_asked", "map_asked", "locate", "peering_wide", "churn_wide", "ask_heavy", "submit_heavy")
 
@@ -34,12 +30,6 @@ def answers(words, script):
     with open(script, "rb") as lines:
         run = subprocess.run(words, stdin=lines, stdout=subprocess.PIPE)
     return run.stdout, run.returncode
-
-
-def seconds(runs, part):
-    """Gives the least seconds, elapsed or of the processor, and the median."""
-    values = [getattr(it, part) for it in runs]
-    return f"{min(values):.3f} / {statistics.median(values):.3f}"
 
 
 def rows(name, script, options):
@@ -58,20 +48,13 @@ def rows(name, script, options):
 
 def main(options):
     found = []
-    for name in options.names or NAMES:
-        script = f"{options.inputs}/{name}.jsonl"
-        if not os.path.exists(script):
-            sys.exit(f"{script} isn't there. bench/make_inputs.py makes it")
+    for name, script in scripts(options, NAMES):
         found += rows(name, script, options)
     print(table(["script", "lines", "workers", "elapsed, s", "to none", "processor, s", "to none"], found))
 
 
 if __name__ == "__main__":
-    parser = argparse.ArgumentParser(description=__doc__, formatter_class=argparse.RawDescriptionHelpFormatter)
-    parser.add_argument("--program", default=f"{HERE}/../crates/pgpeer/out/pgpeer", type=os.path.abspath)
-    parser.add_argument("--inputs", default=f"{HERE}/out")
-    parser.add_argument("--runs", type=int, default=5)
+    parser = command_line_of_scripts(__doc__)
     parser.add_argument("--shards", type=int, default=4)
     parser.add_argument("--workers", type=int, nargs="+", default=[1, 2, 4])
-    parser.add_argument("names", nargs="*", metavar="NAME")
     main(parser.parse_args())

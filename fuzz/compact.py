@@ -24,7 +24,6 @@ import re
 import resource
 import shlex
 import sys
-import time
 from typing import Callable, Counter, Iterator, List, NamedTuple, Optional, Sequence, Tuple
 
 import compaction
@@ -86,14 +85,14 @@ def message(entries: int, kept: int, refused: int) -> bytes:
     return f"pgpeer: left out {entries - kept} of {entries} entries{told}\n".encode()
 
 
-def by_model(text: bytes) -> Tuple[bytes, bytes]:
+def by_model(text: bytes, last: int = 2) -> Tuple[bytes, bytes]:
     """What `compact` writes of a script, and what it says on standard error."""
-    taken, refused = Taken(), 0
+    taken, refused = Taken(model.Model(last)), 0
     for line in text.split(b"\n"):
         answer = taken.log.answer(line)
         refused += is_refused(answer)
         if answer is not None and is_taken(answer):
-            taken.note(line, lines.read(line).value, answer)
+            taken.note(line, lines.read(line, last).value, answer)
     kept = taken.kept()
     return text_of([taken.lines[at] for at in kept]), message(len(taken.entries), len(kept), refused)
 
@@ -299,21 +298,10 @@ def tried(options: argparse.Namespace, is_over: Callable[[Counter[str]], bool], 
 
 
 def main() -> int:
-    parser = argparse.ArgumentParser(description=__doc__, formatter_class=argparse.RawDescriptionHelpFormatter)
-    parser.add_argument("--program", default=str(fuzz.PROGRAM), metavar="PATH")
-    parser.add_argument("--seed", default="1")
-    parser.add_argument("--kinds", nargs="+", choices=KINDS, default=list(KINDS), metavar="KIND", help=", ".join(KINDS))
-    parser.add_argument("--lines", type=float, metavar="N", help="ends once this many lines were tried (by default 100,000)")
-    parser.add_argument("--minutes", type=float, metavar="M", help="ends after this time")
-    parser.add_argument("--seconds", type=int, default=60, metavar="S", help="how long a run may take")
-    parser.add_argument("--under", default="", metavar="WORDS")
-    parser.add_argument("--keep", default=str(fuzz.HERE / "out"), metavar="FOLDER")
-    options = parser.parse_args()
-    most = options.lines if options.lines is not None else float("inf") if options.minutes else 100_000
-    end = time.monotonic() + 60 * options.minutes if options.minutes else float("inf")
+    options = fuzz.command_line_of_scripts(__doc__, KINDS, 60).parse_args()
     resource.setrlimit(resource.RLIMIT_CORE, (0, 0))
     figures = Figures()
-    for wrong in tried(options, lambda sums: sums["lines"] >= most or time.monotonic() > end, figures):
+    for wrong in tried(options, fuzz.until(options), figures):
         print(wrong[:2000], flush=True)
     print(figures.text())
     return 1 if figures.sums["wrong"] else 0

@@ -11,18 +11,17 @@ the same too. A compacted log has to be the whole log compacted, and stays as it
 --wrong leaves out a reason for which an entry stays: then a difference has to be found, or the status is 1.
 """
 
-import argparse
 import collections
 import json
 import random
 import sys
-import time
-from typing import Any, Callable, Counter, Dict, Iterator, List, Optional, Set, Tuple
+from typing import Any, Counter, Dict, List, Optional, Set, Tuple
 
 import grammar
 import model
 import peering
 import reasons as explanations
+from logs import figures, first_found, first_groups, options_of
 from maps import Group
 
 Line = Dict[str, Any]
@@ -123,7 +122,7 @@ def explanation(log: model.Model, group: Group) -> Dict[str, Any]:
     """All that `explain` finds out about a group; the smallest sets only where few devices are waited for."""
     it = explanations.Reckoned(log, group)
     few = len(it.view["blocked_by"]) <= 6
-    return {**it.shown(), "lacks": it.lacks(), "fallen": it.fallen(), "sets": [it.sets(way) for way in explanations.WAYS if few]}
+    return {**it.shown(), "lacks": it.lacks(), "fallen": it.fallen(), "sets": it.sets() if few else []}
 
 
 class Pair:
@@ -137,10 +136,6 @@ class Pair:
         self.entries: List[Line] = []  # of the compacted log
         self.taken: List[Line] = []  # of the whole one
         self.lines: List[Any] = []  # all lines, and None where the log was compacted
-
-    def groups(self) -> List[Group]:
-        made = self.log.maps.made
-        return [(pool, pg) for pool in made for pg in range(min(made[pool]["pg_num"], 2))]
 
     def compact(self) -> bool:
         """Compacts the other log; whether that is the whole log compacted, and leaves out nothing when done twice."""
@@ -158,8 +153,12 @@ class Pair:
         whole = [self.taken[at] for at in places_left(self.log, self.taken, self.left_out)]
         return compacted(self.entries, self.left_out) == self.entries == whole
 
-    def take(self) -> Optional[str]:
-        """One line more; what is wrong then."""
+    def take(self) -> Optional[Tuple[str, List[Any]]]:
+        """One line more; what is wrong then, with all lines."""
+        wrong = self.wrong_line()
+        return (wrong, self.lines) if wrong else None
+
+    def wrong_line(self) -> Optional[str]:
         if self.rng.random() < 0.05 and not self.compact():
             return "it isn't legal, or isn't the whole log compacted, or compacted again it is another"
         line = self.story.line()
@@ -174,7 +173,7 @@ class Pair:
         if line["op"] in ("inc", "info", "entries", "close") and not answer.code:
             self.entries.append(line)
             self.taken.append(line)
-            for group in self.groups():
+            for group in first_groups(self.log):
                 self.counted["views"] += 1
                 if self.log.view(group) != self.other.view(group):
                     return f"group {group}: {self.log.view(group)} is {self.other.view(group)}"
@@ -186,32 +185,11 @@ class Pair:
         return None
 
 
-def check(seed: str, is_over: Callable[[int], bool], counted: Counter[str], left_out: str) -> Iterator[Tuple[str, List[Any]]]:
-    number = 0
-    while not is_over(number):
-        rng = random.Random(f"{seed}/{number}")
-        pair = Pair(rng, counted, left_out)
-        for _ in range(rng.choice((50, 150, 400))):
-            found = pair.take()
-            if found is not None:
-                yield found, pair.lines
-                break
-        number += 1
-        counted["logs"] += 1
-
-
 def main() -> int:
-    parser = argparse.ArgumentParser(description=__doc__, formatter_class=argparse.RawDescriptionHelpFormatter)
-    parser.add_argument("--seed", default="1")
-    parser.add_argument("--logs", type=int, default=200, metavar="N", help="how many logs (by default 200)")
-    parser.add_argument("--minutes", type=float, metavar="M", help="goes on for so long instead")
-    parser.add_argument("--wrong", choices=REASONS, default="", metavar="NAME", help=", ".join(REASONS))
-    options = parser.parse_args()
-    end = time.monotonic() + 60 * (options.minutes or 0)
-    is_over = (lambda _: time.monotonic() > end) if options.minutes else (lambda number: number >= options.logs)
+    options = options_of(__doc__, REASONS)
     counted: Counter[str] = collections.Counter()
-    found = next(check(options.seed, is_over, counted, options.wrong), None)
-    print(", ".join(f"{counted[key]:,} {key}" for key in sorted(counted)))
+    found = first_found(options, lambda rng: Pair(rng, counted, options.wrong).take, counted)
+    print(figures(counted))
     if found:
         print(found[0], file=sys.stderr)
         for line in found[1]:

@@ -9,7 +9,6 @@ and `compact` are tried. --large has the scripts of 4 GiB too, for `run` alone, 
 Status 1: one failed.
 """
 
-import argparse
 import os
 import pathlib
 import subprocess
@@ -20,10 +19,13 @@ from typing import Any, Callable, List, NamedTuple, Tuple
 
 import compact
 import fuzz
+from fuzz import ROOT, command_line
 
 MOST_LINES, MOST_BYTES = 1_000_000, 4_294_967_296
 READ_FAULT, WRITE_FAULT = b"pgpeer: read fault\n", b"pgpeer: write fault\n"
-TOO_LARGE = READ_FAULT + b"pgpeer: the script has more than 1000000 lines or 4294967296 bytes\n"
+FAILED_READ = READ_FAULT + b"pgpeer: a read failed in line 1\n"
+TOO_MANY_LINES = READ_FAULT + b"pgpeer: the script has more than 1000000 lines\n"
+TOO_MANY_BYTES = READ_FAULT + b"pgpeer: the script has more than 4294967296 bytes, in line 2\n"
 CLOSE, CLOSED = b'{"op":"close"}\n', b'{"count":1,"epoch":0,"ok":"close"}\n'
 TOO_LONG = b'{"code":30,"refused":"LineTooLong"}\n'
 KEPT = compact.message(1, 1, 0)  # of a Close
@@ -57,7 +59,7 @@ def cuts(program: str) -> bool:
 
 def compacted_cuts(program: str) -> bool:
     """The example of a compaction cut after each number of bytes is compacted as the model says."""
-    text = (fuzz.ROOT / "examples" / "compact.jsonl").read_bytes()
+    text = (ROOT / "examples" / "compact.jsonl").read_bytes()
     for length in range(len(text) + 1):
         if ended(program, text[:length], "compact") != End(*compact.by_model(text[:length]), 0):
             print(f"compact.jsonl cut after {length} bytes", file=sys.stderr)
@@ -66,7 +68,7 @@ def compacted_cuts(program: str) -> bool:
 
 
 def examples() -> List[pathlib.Path]:
-    files = sorted((fuzz.ROOT / "examples").glob("*.jsonl"))
+    files = sorted((ROOT / "examples").glob("*.jsonl"))
     return [file for file in files if "." not in file.stem]
 
 
@@ -76,7 +78,7 @@ def failing_read(program: str) -> bool:
         runs = [subprocess.run([program, it], stdin=folder, capture_output=True, timeout=60) for it in SUBCOMMANDS]
     finally:
         os.close(folder)
-    return all(End(run.stdout, run.stderr, run.returncode) == End(b"", READ_FAULT, 3) for run in runs)
+    return all(End(run.stdout, run.stderr, run.returncode) == End(b"", FAILED_READ, 3) for run in runs)
 
 
 def failing_write(program: str) -> bool:
@@ -131,7 +133,7 @@ def most_lines(program: str) -> bool:
     more = [b"\n", b"x", b" ", CLOSE]
     whole = ended(program, text) == End(CLOSED, b"", 0) and ended(program, text, "compact") == End(CLOSE, KEPT, 0)
     return whole and all(
-        ended(program, text + it) == End(CLOSED, TOO_LARGE, 3) and ended(program, text + it, "compact") == End(b"", TOO_LARGE, 3)
+        ended(program, text + it) == End(CLOSED, TOO_MANY_LINES, 3) and ended(program, text + it, "compact") == End(b"", TOO_MANY_LINES, 3)
         for it in more
     )
 
@@ -162,14 +164,14 @@ def streamed(program: str, head: bytes, count: int) -> End:
 def most_bytes(program: str) -> bool:
     left = MOST_BYTES - len(CLOSE)
     whole = streamed(program, CLOSE, left) == End(CLOSED + TOO_LONG, b"", 0)
-    return whole and streamed(program, CLOSE, left + 1) == End(CLOSED, TOO_LARGE, 3)
+    return whole and streamed(program, CLOSE, left + 1) == End(CLOSED, TOO_MANY_BYTES, 3)
 
 
 def by_turns(program: str) -> bool:
     """The answer to a line comes before the next line is sent."""
     pipes = {"stdin": subprocess.PIPE, "stdout": subprocess.PIPE}
-    text = (fuzz.ROOT / "examples" / "outage.jsonl").read_bytes()
-    wanted = (fuzz.ROOT / "examples" / "outage.answers.jsonl").read_bytes()
+    text = (ROOT / "examples" / "outage.jsonl").read_bytes()
+    wanted = (ROOT / "examples" / "outage.answers.jsonl").read_bytes()
     with subprocess.Popen([program, "run"], bufsize=0, **pipes) as process:
         out = os.fdopen(os.dup(process.stdout.fileno()), "rb")
         found = []
@@ -199,8 +201,7 @@ def words(program: str) -> bool:
 
 
 def main() -> int:
-    parser = argparse.ArgumentParser(description=__doc__, formatter_class=argparse.RawDescriptionHelpFormatter)
-    parser.add_argument("--program", default=str(fuzz.PROGRAM), metavar="PATH")
+    parser = command_line(__doc__)
     parser.add_argument("--large", action="store_true")
     options = parser.parse_args()
     checks: List[Callable[[str], bool]] = [cuts, compacted_cuts, failing_read, failing_write, nobody_reads, no_further]

@@ -119,7 +119,8 @@ def corner(name: str, pool: Dict[str, Any], *actings: List[Optional[int]]) -> En
 
 
 def corners() -> Iterator[End]:
-    """Ends with as many smallest sets as `explain` lists, and with more."""
+    """Ends with as many smallest sets as `explain` lists, with more that are any so many, and with others."""
     plain, shards = {"kind": "replicated", "size": 4}, {"kind": "erasure", "size": 6, "k": 3}
     yield corner("sixteen", plain, [0, 1, 2, 3], [4, 5, 6, 7], [8])
     yield corner("twenty", shards, [0, 1, 2, 3, 4, 5], [None, None, None, None, None, 6])
+    yield corner("more", {**plain, "size": 6}, [0, 1, 2, 3], [4, 5, 6, 7, 8, 9], [10])

@@ -3,15 +3,15 @@
 
     fuzz/explain.py [--program PATH] [--seed N] [--logs N | --minutes M] [--most N] [--keep FOLDER] [--run-alone]
 
-Of each generated log a few ends are taken at which groups are down. For each such group each subset of the devices that are
-down is tried, those too that don't block it; or, where more than --most are down (8 if not said), each subset of those that
-block it, where these are no more: the log with one incremental more that boots just this subset, and the log with one that
-declares just this subset lost at its own epoch, are answered by `run`. The subsets after which the
-group isn't down, and of which no part is such, have to be the sets that `explain POOL.SEED --json` lists, in its order. All
-else that it says of the first groups of each pool, and of all groups without a group named, has to be what the model works
-out; and so have its words, with and without --epoch-offset, and for which lines it tells a fault.
+Of each generated log a few ends are taken at which groups are down. For each such group each device that is down or destroyed is
+started, declared lost, or left as it is, in each combination; where more than --most are down (5 if not said), those of the
+intervals that block the group alone, where these are no more. The log with one incremental more that does just this is answered
+by `run`. The smallest sets after which the group isn't down have to be those that `explain POOL.SEED --json --losses` names, in
+its order, each with the verdict of `run`, whichever of the devices are started and which are lost. All else that it says of the
+first groups of each pool, and of all groups without a group named, has to be what the model works out, prices too; and so have its
+words, with and without --epoch-offset, and for which lines it tells a fault.
 
-With --run-alone the program's `explain` isn't asked: the sets of `run` are held against those of the model. The same seed
+With --run-alone the program's `explain` isn't asked: what `run` answers is held against the model. The same seed
 gives the same logs. A log with a wrong answer is kept in the folder that --keep names. The last line is
 `N groups, M subsets, K wrong`: groups that were explained, subsets that were tried, and explanations that are wrong. Status
 1: something was wrong.
@@ -36,17 +36,20 @@ import model
 import reasons
 import wording
 from ends import End, corners, ends_of, entries_of
-from maps import Group
-from reasons import WAYS, Devices
+from maps import Group, Maps
+from reasons import Devices, Way
 
 HERE = pathlib.Path(__file__).resolve().parent
-PROGRAM = HERE.parent / "crates/pgpeer/out/pgpeer"
+sys.path.append(str(HERE.parent / "dev"))
+
+from built import command_line  # noqa: E402
+
 MOST_GROUPS = 40  # of a log whose groups are told together
 MOST_SETS = 16  # that `explain` lists
+MOST_JUDGED = 9  # devices of which it judges all sets
+MOST_MODELLED = 10  # devices of which the model finds the smallest sets
 OFFSET = 1000  # by which epochs are told later
 SECONDS = 60  # for one run
-
-Try = Tuple[str, Devices]  # one of WAYS, and the devices
 
 
 # The program
@@ -74,65 +77,75 @@ def said(words: List[str], text: bytes) -> List[bytes]:
     return run_of(words, text)[0]
 
 
-def incremental(epoch: int, it: Try) -> bytes:
-    """The incremental that boots just these devices, or declares just these lost at its own epoch."""
-    way, osds = it
-    what = {"up": osds} if way == "starts" else {"lost": [[osd, epoch] for osd in osds]}
-    return grammar.compact({"op": "inc", "epoch": epoch, **({} if not osds else what)})
+Views = Dict[Group, Dict[str, Any]]
 
 
-def down_after(program: str, before: bytes, epoch: int, it: Try, groups: List[Group]) -> Dict[Group, bool]:
-    """Which of the groups are down still once the devices booted, or were declared lost."""
+def views_after(program: str, before: bytes, epoch: int, way: Way, groups: List[Group]) -> Views:
+    """What the groups are once devices booted, or were declared lost."""
     asks = b"".join(grammar.compact({"op": "ask", "pg": group}) + b"\n" for group in groups)
-    answers = said([program, "run"], before + incremental(epoch, it) + b"\n" + asks)
+    answers = said([program, "run"], before + grammar.compact(way.incremental(epoch)) + b"\n" + asks)
     taken, *views = [json.loads(line) for line in answers[-1 - len(groups) :]]
     if taken.get("ok") != "inc" or any(view.get("ok") != "ask" for view in views):
-        raise Failed(f"run answers {answers[-1 - len(groups) :]!r} after {it}")
+        raise Failed(f"run answers {answers[-1 - len(groups) :]!r} after {way}")
     if any(view["verdict"] == "Down" and not view["blocked_by"] for view in views):
-        raise Failed(f"a group is Down and nobody blocks it after {it}")
-    return {group: bool(view["blocked_by"]) for group, view in zip(groups, views)}
+        raise Failed(f"a group is Down and nobody blocks it after {way}")
+    return dict(zip(groups, views))
 
 
 # What is tried at an end
 
 
-def subsets(osds: Devices) -> Iterator[Devices]:
-    return itertools.chain.from_iterable(itertools.combinations(osds, count) for count in range(len(osds) + 1))
-
-
 def tried_devices(end: End, group: Group, most: int) -> Devices:
-    """The devices of which each subset is tried: all that are down, or, where these are too many, those that block the group."""
+    """The devices that are tried: all that are down or destroyed, or, where these are too many, those that block the group."""
     maps, blocking = end.log.maps, tuple(end.log.view(group)["blocked_by"])
-    down = [osd for osd in sorted(maps.states.epochs) if maps.exists(osd, maps.epoch) and not maps.is_up(osd, maps.epoch)]
-    devices = tuple(down) if len(down) <= most else blocking
+    down = tuple(osd for osd in sorted(maps.states.epochs) if not maps.is_up(osd, maps.epoch))
+    devices = down if len(down) <= most else blocking
     return devices if blocking and len(devices) <= most else ()
 
 
-def tries(end: End, most: int) -> Dict[Try, List[Group]]:
+def ways_of(maps: Maps, devices: Devices) -> Iterator[Way]:
+    """Each subset of the devices to start, with each of the others to declare lost, as far as it is there."""
+    for chosen in itertools.product(*(("stays", "starts", "lost") if maps.exists(osd, maps.epoch) else ("stays", "starts") for osd in devices)):
+        yield Way(*(tuple(osd for osd, what in zip(devices, chosen) if what == way) for way in ("starts", "lost")))
+
+
+def tries(end: End, most: int) -> Dict[Way, List[Group]]:
     """What is tried, and of which groups the answer is wanted then."""
-    found: Dict[Try, List[Group]] = {}
+    found: Dict[Way, List[Group]] = {}
     for group in end.groups:
         devices = tried_devices(end, group, most)
-        for it in itertools.product(WAYS, subsets(devices)) if devices else ():
-            found.setdefault(it, []).append(group)
+        for way in ways_of(end.log.maps, devices) if devices else ():
+            found.setdefault(way, []).append(group)
     return found
 
 
-Sets = Dict[Tuple[Group, str], List[Devices]]
+class Tried(NamedTuple):
+    """What `run` answers of a group after each way."""
+
+    blocking: Devices
+    verdicts: Dict[Way, str]
+    down: Dict[Way, bool]
+
+    def sets(self) -> List[Devices]:
+        """The smallest sets of devices that are waited for to start."""
+        return reasons.smallest(lambda osds: not self.down[Way(osds, ())], self.blocking)
+
+    def unlike(self) -> Iterator[str]:
+        """Ways that end otherwise than if all their devices were started."""
+        for (starts, losses), down in self.down.items():
+            if down != self.down[Way(tuple(sorted(starts + losses)), ())]:
+                yield f"starting {starts} and losing {losses} is not as starting all"
 
 
-def sets_by_run(pool: concurrent.futures.Executor, program: str, end: End, wanted: Dict[Try, List[Group]], most: int) -> Sets:
-    """The smallest sets of each group, and of each way, by the answers of `run`."""
+def tried_by_run(pool: concurrent.futures.Executor, program: str, end: End, wanted: Dict[Way, List[Group]], most: int) -> Dict[Group, Tried]:
+    """What becomes of each group, by the answers of `run`."""
     before, epoch = b"".join(line + b"\n" for line in entries_of(end.lines)), end.log.maps.epoch + 1
-    answers = pool.map(lambda it: down_after(program, before, epoch, it, wanted[it]), wanted)
-    enough: Dict[Tuple[Group, str], Set[Devices]] = {}
-    for (way, osds), down in zip(wanted, answers):
-        for group, is_down in down.items():
-            enough.setdefault((group, way), set()).update([] if is_down else [osds])
-    return {
-        (group, way): reasons.smallest(lambda osds, found=found: osds in found, tried_devices(end, group, most))
-        for (group, way), found in enough.items()
-    }
+    found: Dict[Group, Tried] = {}
+    for way, views in zip(wanted, pool.map(lambda it: views_after(program, before, epoch, it, wanted[it]), wanted)):
+        for group, view in views.items():
+            it = found.setdefault(group, Tried(tuple(end.log.view(group)["blocked_by"]), {}, {}))
+            it.verdicts[way], it.down[way] = view["verdict"], bool(view["blocked_by"])
+    return found
 
 
 def as_json(value: Any) -> Any:
@@ -140,39 +153,80 @@ def as_json(value: Any) -> Any:
     return json.loads(model.compact(value))
 
 
-def wrong_sets(found: Any, wanted: List[Devices]) -> Optional[str]:
-    """What is wrong with the sets that `explain` lists: the first MOST_SETS, and whether there are more."""
-    right = {"sets": as_json(wanted[:MOST_SETS]), "more": len(wanted) > MOST_SETS}
-    return None if found == right else f"{found} and not {right}"
+def way_shown(it: reasons.Reckoned, way: Way) -> Dict[str, Any]:
+    """A way as `explain --json` shows it: what it leads to, and what it costs."""
+    after = it.after(way)
+    then = {"says": said_then(after), "verdict": after.view["verdict"]}
+    return {"intervals": it.price(way), "lost": way.losses, "start": way.starts, "then": then, "unreadable": it.is_unreadable(way)}
 
 
-def wrong_group(found: Dict[str, Any], end: End, group: Group, sets: Sets) -> Iterator[str]:
+def said_then(after: reasons.Reckoned, offset: int = 0) -> str:
+    """What is said of a group after a way, with each epoch so much later."""
+    return words_of(after, wording.shifted(as_json(after.shown()), offset)).says_then()
+
+
+def shifted(found: Dict[str, Any], it: reasons.Reckoned) -> Dict[str, Any]:
+    """The explanation of a group with each epoch OFFSET later."""
+    later: Dict[str, Any] = wording.shifted(found, OFFSET)
+    later["says"] = words_of(it, later).says()
+    for way in (*later["ways"]["sets"], *later["last_resort"]):
+        way["then"]["says"] = said_then(it.after(Way(tuple(way["start"]), tuple(way["lost"]))), OFFSET)
+    return later
+
+
+def wrong_group(found: Dict[str, Any], end: End, group: Group, tried: Dict[Group, Tried]) -> Iterator[str]:
     """What is wrong with the explanation of a group."""
-    reckoned = reasons.Reckoned(end.log, group)
-    wanted = as_json(reckoned.shown())
-    wanted["says"] = words_of(end, group, wanted).says()
-    for key in sorted({*found, *wanted} - {*WAYS}):
+    it = reasons.Reckoned(end.log, group)
+    wanted = as_json(it.shown())
+    wanted["says"] = words_of(it, wanted).says()
+    for key in sorted({*found, *wanted} - {"ways", "last_resort"}):
         if key not in found or key not in wanted or found[key] != wanted[key]:
             yield f"{key} is {found.get(key)} and not {wanted.get(key)}"
-    for way in WAYS:
-        if (group, way) in sets:
-            why = wrong_sets(found[way], sets[group, way])
-        elif len(reckoned.view["blocked_by"]) <= 10:
-            why = wrong_sets(found[way], reckoned.sets(way))
-        else:
-            why = None
-        if why:
-            yield f"{way} is {why}"
+    sets = tried[group].sets() if group in tried else it.sets() if len(it.view["blocked_by"]) <= MOST_MODELLED else None
+    if sets is not None:
+        yield from wrong_ways(found, it, sets)
+    if group in tried:
+        yield from wrong_outcomes(found, tried[group])
+
+
+def wrong_ways(found: Dict[str, Any], it: reasons.Reckoned, sets: List[Devices]) -> Iterator[str]:
+    """What is wrong with the ways of a group, where these are the smallest sets of devices to start."""
+    ways, shape = found["ways"], reasons.any_of(sets)
+    listed = [tuple(way["start"]) for way in ways["sets"]]
+    if ways["more"]:
+        if shape or len(sets) <= MOST_SETS and len(it.view["blocked_by"]) <= MOST_JUDGED or not listed or not set(listed) <= set(sets):
+            yield f"the ways are {listed} and others, and not {sets}"
+        in_each = set(listed[0]).intersection(*listed)
+        if len(listed) < MOST_SETS and not all(in_each <= set(osds) for osds in sets):
+            yield f"the ways {listed} share devices that not all of {sets} have"
+        told = listed
+    else:
+        told = reasons.told_sets(sets)
+        wanted = shape and {"least": shape[0], "osds": list(shape[1])}
+        if listed != told or ways["any"] != wanted or any(way["lost"] for way in ways["sets"]):
+            yield f"the ways are {listed} or {ways['any']}, and not {told} or {wanted}"
+    rights = [*(Way(osds, ()) for osds in told), *reasons.resorts(told)]
+    for way, right in itertools.zip_longest([*ways["sets"], *found["last_resort"]], rights):
+        wanted = right and as_json(way_shown(it, right))
+        if way != wanted:
+            yield f"a way is {way} and not {wanted}"
+
+
+def wrong_outcomes(found: Dict[str, Any], tried: Tried) -> Iterator[str]:
+    """Ways that are told and after which `run` answers otherwise."""
+    for told in (*found["ways"]["sets"], *found["last_resort"]):
+        way = Way(tuple(told["start"]), tuple(told["lost"]))
+        if way in tried.verdicts and (told["then"]["verdict"] != tried.verdicts[way] or tried.down[way]):
+            yield f"{way} leads to {tried.verdicts[way]}, and not to {told['then']['verdict']}"
 
 
 def named(group: Group) -> str:
     return f"{group[0]}.{group[1]:x}"
 
 
-def words_of(end: End, group: Group, found: Dict[str, Any]) -> wording.Words:
+def words_of(it: reasons.Reckoned, found: Dict[str, Any]) -> wording.Words:
     """The words for an explanation of a group."""
-    size, min_size = end.log.maps.sizes.last(group[0], end.log.maps.epoch, None)
-    it = reasons.Reckoned(end.log, group)
+    size, min_size = it.maps.sizes.last(it.group[0], it.maps.epoch, None)
     beside = wording.Beside(size, min_size, it.view["best"], it.lacks(), it.fallen(), it.view["missing"])
     return wording.Words(found, it.code, beside)
 
@@ -210,12 +264,12 @@ def first_difference(found: List[str], wanted: List[str]) -> Optional[str]:
 
 def wrong_words(it: Told, end: End, group: Group) -> Iterator[str]:
     """What is wrong with the words of a group, and with its later epochs, by its object."""
-    later = wording.shifted(it.found, OFFSET)
-    later["says"] = words_of(end, group, later).says()
+    reckoned = reasons.Reckoned(end.log, group)
+    later = shifted(it.found, reckoned)
     if it.later != later:
         yield f"with later epochs it is {it.later} and not {later}"
     for found, lines in ((it.found, it.lines), (later, it.later_lines)):
-        why = first_difference(lines, list(words_of(end, group, found).lines()))
+        why = first_difference(lines, list(words_of(reckoned, found).lines()))
         if why:
             yield why
 
@@ -226,11 +280,11 @@ def wrong_errors(it: Told, end: End) -> Optional[str]:
     return first_difference(found, end.refused)
 
 
-def wrong_by_explain(pool: concurrent.futures.Executor, program: str, end: End, sets: Sets) -> Iterator[Tuple[str, str]]:
+def wrong_by_explain(pool: concurrent.futures.Executor, program: str, end: End, tried: Dict[Group, Tried]) -> Iterator[Tuple[str, str]]:
     """What is wrong with what `explain` says at an end: of which group, and what."""
     names = [named(group) for group in end.groups]
-    for group, it in zip(end.groups, pool.map(lambda name: told(program, end, name), names)):
-        for why in [*wrong_group(it.found, end, group, sets), *wrong_words(it, end, group), wrong_errors(it, end)]:
+    for group, it in zip(end.groups, pool.map(lambda name: told(program, end, name, "--losses"), names)):
+        for why in [*wrong_group(it.found, end, group, tried), *wrong_words(it, end, group), wrong_errors(it, end)]:
             if why:
                 yield named(group), why
     if sum(made["pg_num"] for made in end.log.maps.made.values()) <= MOST_GROUPS:
@@ -243,12 +297,16 @@ def wrong_by_explain(pool: concurrent.futures.Executor, program: str, end: End, 
                 yield "all groups", why
 
 
-def wrong_by_model(end: End, sets: Sets) -> Iterator[Tuple[str, str]]:
-    """Where the sets of `run` aren't the model's."""
-    for (group, way), found in sets.items():
-        wanted = reasons.Reckoned(end.log, group).sets(way)
-        if found != wanted:
-            yield named(group), f"{way} is {found} by run and {wanted} by the model"
+def wrong_by_model(end: End, tried: Dict[Group, Tried]) -> Iterator[Tuple[str, str]]:
+    """Where `run` answers otherwise than the model."""
+    for group, found in tried.items():
+        it = reasons.Reckoned(end.log, group)
+        if found.sets() != it.sets():
+            yield named(group), f"the smallest sets are {found.sets()} by run and {it.sets()} by the model"
+        yield from ((named(group), why) for why in found.unlike())
+        for way, down in found.down.items():
+            if down != it.is_down_with(way):
+                yield named(group), f"{way} is told otherwise by run"
 
 
 # Runs
@@ -262,11 +320,12 @@ class Figures:
         self.verdicts: Counter[str] = collections.Counter()
         self.shapes: Counter[str] = collections.Counter()
 
-    def count(self, end: End, tried: int, sets: Sets, wrong: int) -> None:
-        self.sums.update(ends=1, groups=len(end.groups), subsets=tried, wrong=wrong)
+    def count(self, end: End, ways: int, tried: Dict[Group, Tried], wrong: int) -> None:
+        self.sums.update(ends=1, groups=len(end.groups), subsets=ways, wrong=wrong)
         self.verdicts.update(end.log.view(group)["verdict"] for group in end.groups)
-        for found in sets.values():
-            sizes = sorted({len(it) for it in found})
+        for it in tried.values():
+            found = it.sets()
+            sizes = sorted({len(osds) for osds in found})
             self.shapes[f"{'one set' if len(found) == 1 else 'several sets'} of {' or '.join(map(str, sizes))}"] += 1
 
     def text(self) -> str:
@@ -279,14 +338,15 @@ class Figures:
 
 def tried_at(pool: concurrent.futures.Executor, options: argparse.Namespace, end: End, figures: Figures) -> List[Tuple[str, str]]:
     """Tries what can be tried at an end; gives what is wrong, of which group."""
-    wanted, sets = tries(end, options.most), {}
+    wanted, found = tries(end, options.most), []
+    tried: Dict[Group, Tried] = {}
     try:
-        sets = sets_by_run(pool, options.program, end, wanted, options.most)
-        check = wrong_by_model(end, sets) if options.run_alone else wrong_by_explain(pool, options.program, end, sets)
+        tried = tried_by_run(pool, options.program, end, wanted, options.most)
+        check = wrong_by_model(end, tried) if options.run_alone else wrong_by_explain(pool, options.program, end, tried)
         found = list(check)
     except Failed as why:
         found = [("the program", str(why))]
-    figures.count(end, len(wanted), sets, len({name for name, _ in found}))
+    figures.count(end, len(wanted), tried, len({name for name, _ in found}))
     return found
 
 
@@ -317,12 +377,11 @@ def fuzz(options: argparse.Namespace, is_over: Callable[[int], bool], figures: F
 
 
 def main() -> int:
-    parser = argparse.ArgumentParser(description=__doc__, formatter_class=argparse.RawDescriptionHelpFormatter)
-    parser.add_argument("--program", default=str(PROGRAM), metavar="PATH")
+    parser = command_line(__doc__)
     parser.add_argument("--seed", default="1")
     parser.add_argument("--logs", type=int, metavar="N", help="how many logs (by default 40)")
     parser.add_argument("--minutes", type=float, metavar="M", help="ends after this time")
-    parser.add_argument("--most", type=int, default=8, metavar="N", help="how many devices all subsets are tried of")
+    parser.add_argument("--most", type=int, default=5, metavar="N", help="how many devices all subsets are tried of")
     parser.add_argument("--keep", default=str(HERE / "out"), metavar="FOLDER")
     parser.add_argument("--run-alone", action="store_true", help="hold `run` against the model, and don't ask `explain`")
     options = parser.parse_args()

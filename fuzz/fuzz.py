@@ -24,7 +24,7 @@ import sys
 import tempfile
 import time
 from dataclasses import dataclass, field
-from typing import Any, Counter, Dict, Iterator, List, NamedTuple, Optional, Sequence, Tuple
+from typing import Any, Callable, Counter, Dict, Iterable, Iterator, List, NamedTuple, Optional, Sequence, Tuple
 
 import grammar
 import hostile
@@ -32,8 +32,10 @@ import model
 import rules
 
 HERE = pathlib.Path(__file__).resolve().parent
-ROOT = HERE.parent
-PROGRAM = ROOT / "crates/pgpeer/out/pgpeer"
+sys.path.append(str(HERE.parent / "dev"))
+
+from built import ROOT, command_line  # noqa: E402
+
 KINDS = {"story": 750, "noise": 200, "traces": 20, "long": 15, "wide": 10, "full": 2}
 AFTER_CLOSE = 30  # lines
 
@@ -296,9 +298,8 @@ def keep(folder: pathlib.Path, name: str, script: Script, run: Run, wrong: str) 
 def fuzz(options: argparse.Namespace, words: List[str], figures: Figures) -> Iterator[str]:
     """Runs script after script; gives what is wrong with each that is."""
     others = repository_lines()
-    end = time.monotonic() + 60 * options.minutes if options.minutes else float("inf")
-    number, told = options.first, time.monotonic()
-    while figures.sums["lines"] < options.lines and time.monotonic() < end:
+    is_over, number, told = until(options), options.first, time.monotonic()
+    while not is_over(figures.sums):
         kind, script = script_of(options.seed, number, others, options.kinds)
         run = answered(words, script.text(), options.seconds, "run", *script.options())
         wrong = complaint(script, run)
@@ -362,18 +363,30 @@ def summed(files: List[str]) -> Figures:
     return figures
 
 
-def main() -> int:
-    parser = argparse.ArgumentParser(description=__doc__, formatter_class=argparse.RawDescriptionHelpFormatter)
-    parser.add_argument("--program", default=str(PROGRAM), metavar="PATH")
+def command_line_of_scripts(about: Optional[str], kinds: Iterable[str], seconds: int) -> argparse.ArgumentParser:
+    """The command line of what tries script after script of these kinds, and has this many seconds for a run."""
+    parser = command_line(about)
     parser.add_argument("--seed", default="1")
-    parser.add_argument("--first", type=int, default=0, metavar="N", help="the number of the first script")
-    parser.add_argument("--kinds", nargs="+", choices=KINDS, default=list(KINDS), metavar="KIND", help=", ".join(KINDS))
-    parser.add_argument("--lines", type=float, metavar="N", help="ends once this many lines were run (by default 100,000)")
+    parser.add_argument("--kinds", nargs="+", choices=kinds, default=list(kinds), metavar="KIND", help=", ".join(kinds))
+    parser.add_argument("--lines", type=float, metavar="N", help="ends once this many lines were tried (by default 100,000)")
     parser.add_argument("--minutes", type=float, metavar="M", help="ends after this time")
-    parser.add_argument("--seconds", type=int, default=300, metavar="S", help="how long a script may take")
+    parser.add_argument("--seconds", type=int, default=seconds, metavar="S", help="how long a run may take")
     parser.add_argument("--under", default="", metavar="WORDS")
-    parser.add_argument("--figures", metavar="FILE")
     parser.add_argument("--keep", default=str(HERE / "out"), metavar="FOLDER")
+    return parser
+
+
+def until(options: argparse.Namespace) -> Callable[[Counter[str]], bool]:
+    """Whether as many lines were tried as the command line says, by what was counted, or its time is over."""
+    lines = options.lines if options.lines is not None else float("inf") if options.minutes else 100_000
+    end = time.monotonic() + 60 * options.minutes if options.minutes else float("inf")
+    return lambda sums: sums["lines"] >= lines or time.monotonic() > end
+
+
+def main() -> int:
+    parser = command_line_of_scripts(__doc__, KINDS, 300)
+    parser.add_argument("--first", type=int, default=0, metavar="N", help="the number of the first script")
+    parser.add_argument("--figures", metavar="FILE")
     parser.add_argument("--sum", nargs="+", metavar="FILE")
     parser.add_argument("--reduce", metavar="SCRIPT")
     parser.add_argument("--format", type=int, choices=(2, 3), default=2, help="of the script that is reduced; .why says which")
@@ -384,8 +397,6 @@ def main() -> int:
     words = [*shlex.split(options.under), options.program]
     if options.reduce:
         return reduce(options, words)
-    if options.lines is None:
-        options.lines = float("inf") if options.minutes else 100_000
     resource.setrlimit(resource.RLIMIT_CORE, (0, 0))
     figures, is_well = Figures(), True
     for wrong in fuzz(options, words, figures):

@@ -16,18 +16,17 @@ into the model, under which a law doesn't hold: then a log that breaks it is fou
 printed with its log, and the status is 1.
 """
 
-import argparse
 import collections
 import random
 import sys
-import time
-from typing import Any, Callable, Counter, Dict, Iterator, List, NamedTuple, Optional, Set, Tuple
+from typing import Any, Callable, Counter, Dict, Iterator, List, NamedTuple, Optional, Set
 
 import codes
 import grammar
 import maps
 import model
 import peering
+from logs import figures, first_found, first_groups, options_of
 from maps import Group
 
 Line = Dict[str, Any]
@@ -95,7 +94,7 @@ class Watch:
         """Often boots and losses alone, which relief speaks of, and infos that tell of clean epochs."""
         now = self.log.maps
         if now.made and not self.story.plan and not self.story.is_first_form and self.rng.random() < 0.03:
-            group = self.rng.choice(self.groups())
+            group = self.rng.choice(first_groups(self.log))
             return self.story.clean_info(group, self.log.view(group))
         if now.epoch and not self.story.plan and self.rng.random() < 0.05:
             down = [osd for osd in self.story.devices if now.exists(osd, now.epoch) and not now.is_up(osd, now.epoch)]
@@ -114,18 +113,13 @@ class Watch:
         answer = self.log.answer(grammar.compact(line))
         if not is_entry or answer is None or answer.code:
             return
-        for group in self.groups():
+        for group in first_groups(self.log):
             view = self.log.view(group)
             for law in self.broken(group, view, relieves, line["op"] == "inc"):
                 yield Broken(law, group, self.lines)
             if view["verdict"] == "Serve":
                 self.served[group].add(view["first"])
             self.views[group] = view
-
-    def groups(self) -> List[Group]:
-        """The first groups of each pool, which the story is about."""
-        made = self.log.maps.made
-        return [(pool, pg) for pool in made for pg in range(min(made[pool]["pg_num"], 2))]
 
     def count(self, law: str, group: Group, **more: bool) -> None:
         """Counts a case of a law, and what else holds of it."""
@@ -237,52 +231,25 @@ WRONG: Dict[str, Callable[[], None]] = {
 # Runs
 
 
-def check(seed: str, is_over: Callable[[int], bool], counted: Counter[str]) -> Iterator[Broken]:
-    """Log after log; gives the first broken law of each."""
-    number = 0
-    while not is_over(number):
-        rng = random.Random(f"{seed}/{number}")
-        watch = Watch(rng, counted)
-        for _ in range(rng.choice((50, 150, 400))):
-            found = next(watch.take(), None)
-            if found is not None:
-                yield found
-                break
-        number += 1
-        counted["logs"] += 1
-
-
-def figures(counted: Counter[str]) -> str:
-    return ", ".join(f"{counted[key]:,} {key}" for key in sorted(counted))
-
-
-def told(found: Broken) -> Tuple[str, bytes]:
-    return f"{found.law} is broken for group {found.group}", b"".join(grammar.compact(it) + b"\n" for it in found.lines)
+def begun(rng: random.Random, counted: Counter[str]) -> Callable[[], Optional[Broken]]:
+    watch = Watch(rng, counted)
+    return lambda: next(watch.take(), None)
 
 
 def main() -> int:
-    parser = argparse.ArgumentParser(description=__doc__, formatter_class=argparse.RawDescriptionHelpFormatter)
-    parser.add_argument("--seed", default="1")
-    parser.add_argument("--logs", type=int, default=200, metavar="N", help="how many logs (by default 200)")
-    parser.add_argument("--minutes", type=float, metavar="M", help="goes on for so long instead")
-    parser.add_argument("--wrong", choices=WRONG, metavar="NAME", help=", ".join(WRONG))
-    options = parser.parse_args()
+    options = options_of(__doc__, WRONG)
     if options.wrong:
         WRONG[options.wrong]()
-    end = time.monotonic() + 60 * (options.minutes or 0)
-    is_over = (lambda _: time.monotonic() > end) if options.minutes else (lambda number: number >= options.logs)
     counted: Counter[str] = collections.Counter()
-    found = next(check(options.seed, is_over, counted), None)
+    found = first_found(options, lambda rng: begun(rng, counted), counted)
     print(figures(counted))
+    told = f"{found.law} is broken for group {found.group}" if found else "no law is broken"
     if options.wrong:
-        print(told(found)[0] if found else "no law is broken")
-        return 0 if found else 1
-    if found:
-        text, lines = told(found)
-        print(text, file=sys.stderr)
-        sys.stdout.buffer.write(lines)
-        return 1
-    return 0
+        print(told)
+    elif found:
+        print(told, file=sys.stderr)
+        sys.stdout.buffer.write(b"".join(grammar.compact(it) + b"\n" for it in found.lines))
+    return int(bool(found) != bool(options.wrong))
 
 
 if __name__ == "__main__":

@@ -6,7 +6,7 @@ beyond a float, no nesting deeper than 127.
 
 import json
 import re
-from typing import Any, Callable, Dict, List, NamedTuple, Optional, Union
+from typing import Any, Callable, Dict, NamedTuple, Optional, Union
 
 import codes
 

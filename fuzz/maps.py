@@ -102,7 +102,10 @@ class Maps:
             return "Up"
         if not self.exists(osd, self.epoch):
             return "Gone"
-        return "Lost" if self.losts.last(osd, self.epoch, 0) > first else "Down"
+        return "Lost" if self.lost_at(osd) > first else "Down"
+
+    def lost_at(self, osd: int) -> int:
+        return self.losts.last(osd, self.epoch, 0)
 
     # Where a group lies
 

@@ -34,10 +34,10 @@ def runs(noun: str, spans: List[Sequence[int]]) -> str:
     return f"{noun}{'' if is_one else 's'} {named}"
 
 
-def epochs(blocking: List[Shown]) -> str:
+def epochs(intervals: List[Shown]) -> str:
     """The epochs of intervals; those that follow on each other are one run."""
     spans: List[List[int]] = []
-    for it in blocking:
+    for it in intervals:
         if spans and spans[-1][1] + 1 == it["first"]:
             spans[-1][1] = it["last"]
         else:
@@ -56,7 +56,7 @@ def shifted(found: Any, offset: int, key: str = "") -> Any:
     if key in ("last_update", "log_tail"):
         return [shifted(found[0], offset, "epoch"), found[1]]
     if isinstance(found, list):
-        return [shifted(it, offset, key if key in ("blocking", "heard") else "") for it in found]
+        return [shifted(it, offset) for it in found]
     is_epoch = key in ("epoch", "first", "last", "les", "stamp", "history_les", "last_epoch_clean", "clean")
     return found + offset if is_epoch and found else found
 
@@ -91,37 +91,58 @@ class Words:
         says: str = getattr(self, "on_" + self.found["verdict"].lower())()
         return says
 
+    def says_then(self) -> str:
+        """The sentence on a group after a way, with what it lacks besides where it has yet to hear members."""
+        is_short = self.members() < self.beside.min_size or self.beside.lacks
+        return self.says() + (f" {self.few()}" if self.found["verdict"] == "Waiting" and is_short else "")
+
     def on_noprimary(self) -> str:
-        return "No device of its acting set is up, so nobody leads it."
+        return "No device of its acting set is up, so nobody leads it." + self.starters()
+
+    def starters(self) -> str:
+        """Who might be started: who was complete when the group was last clean, or else who served it last."""
+        clean = self.found["clean"]
+        if clean is None or not clean["down"]:
+            return self.fallen()
+        down = f"{devices(clean['down'])} {are(len(clean['down']))} down"
+        return f" Of those that were complete in {epochs([clean])}, when it was last clean, {down}."
+
+    def fallen(self) -> str:
+        fallen = self.beside.fallen
+        return f" Of those that served it last, {devices(fallen)} {are(len(fallen))} down." if fallen else ""
 
     def on_down(self) -> str:
-        down = sorted({osd for it in self.found["blocking"] for osd in it["down"]})
-        when = epochs(self.found["blocking"])
+        intervals = [it["interval"] for it in self.found["blocking"]]
+        down = sorted({osd for it in intervals for osd in it["down"]})
+        when = epochs(intervals)
         head = f"It waits for {devices(down)}, which {are(len(down))} down"
         return f"{head}: writes may have been taken in {when}, and too few of the devices that took them are up."
 
     def on_waiting(self) -> str:
-        return f"It waits to hear from {listed(self.member(it) for it in self.found['unheard'])}."
+        return f"It has yet to hear from {listed(self.member(it) for it in self.found['unheard'])}."
 
     def on_incomplete(self) -> str:
         heard = self.found["heard"]
         if not any(info["complete"] for info in heard):
-            return "No complete copy was heard of."
+            return "No complete copy was heard of." + self.starters()
         last = max(info["history_les"] for info in heard)
         who = [info for info in heard if info["history_les"] == last][-1]
         knows = f"{self.member(who['from'])} knows that the group served in epoch {last}"
-        return f"No copy that was heard of is complete and recent enough: {knows}, and no complete copy has served since."
+        return f"No copy that was heard of is complete and recent enough: {knows}, and no complete copy has served since." + self.starters()
 
     def on_short(self) -> str:
-        members, least, lacks = sum(osd is not None for osd in self.found["acting"]), self.beside.min_size, self.beside.lacks
+        return self.few() + self.fallen()
+
+    def members(self) -> int:
+        return sum(osd is not None for osd in self.found["acting"])
+
+    def few(self) -> str:
+        """What the acting set lacks."""
+        members, least, lacks = self.members(), self.beside.min_size, self.beside.lacks
         if members < least:
-            waits = f"it waits for {counted(least - members, 'more device')}"
-            says = f"Its acting set has {counted(members, 'member')}, and needs at least {least}: {waits}."
-        else:
-            waits = f"it waits for {counted(lacks, 'more shard')}"
-            says = f"The members of its acting set hold too few shards to give objects back: {waits}."
-        fallen = self.beside.fallen
-        return says + (f" Of those that served it last, {devices(fallen)} {are(len(fallen))} down." if fallen else "")
+            needs = f"it needs {counted(least - members, 'more device')}"
+            return f"Its acting set has {counted(members, 'member')}, and needs at least {least}: {needs}."
+        return f"The members of its acting set hold too few shards to give objects back: it needs {counted(lacks, 'more shard')}."
 
     def on_needlog(self) -> str:
         lacks = f"lacks the {runs('write', self.found['gaps'])}" if self.found["gaps"] else "is not in order"
@@ -133,7 +154,9 @@ class Words:
 
     def on_serve(self) -> str:
         lags = listed(name for name in map(self.behind, self.beside.missing) if name)
-        return f"It serves, led by {self.leader()}." + (f" {lags}." if lags else "")
+        lacks = self.found["copies"]["lacks"]
+        unread = f" Too few complete copies were heard to read all that was written: it needs {lacks} more." if lacks else ""
+        return f"It serves, led by {self.leader()}." + unread + (f" {lags}." if lags else "")
 
     def behind(self, peer: Shown) -> str:
         """A member and what it lacks; empty where it has all."""
@@ -164,6 +187,7 @@ class Words:
         for it in found["blocking"]:
             yield from self.interval(it)
         yield from self.ways()
+        yield from self.last_resort()
 
     def info(self, info: Shown) -> str:
         epoch, v = info["last_update"]
@@ -175,35 +199,62 @@ class Words:
         ]
         return ", ".join(parts + ([f"knows of epoch {info['history_les']}"] if info["history_les"] else []))
 
-    def interval(self, it: Shown) -> Iterator[str]:
-        where = f"{epochs([it])} on {places(it['acting'])}"
+    def interval(self, blocking: Shown) -> Iterator[str]:
+        it, lacks = blocking["interval"], blocking["lacks"]
         yield ""
-        yield f"It waits for the interval of {where}, which needs {it['lacks']} more {'member' if it['lacks'] == 1 else 'members'}:"
-        yield f"  {devices(it['down'])} {are(len(it['down']))} down"
+        noun = "member" if self.code is None else "shard"
+        needs = f"{lacks} more {noun}{'' if lacks == 1 else 's'}"
+        yield f"It waits for the interval of {epochs([it])} on {places(it['acting'])}, which needs {needs}:"
+        down = [(osd, slot) for slot, osd in enumerate(it["acting"]) if osd in it["down"]]
+        yield f"  {listed(map(self.member, down))} {are(len(down))} down"
+        fates = {
+            "lost_before": "declared lost before it began, which doesn't count for it",
+            "lost": "declared lost, and no longer waited for",
+            "gone": "destroyed, and can't be waited for",
+        }
+        yield from (f"  {devices(it[key])} {'was' if len(it[key]) == 1 else 'were'} {fate}" for key, fate in fates.items() if it[key])
         leader = next(osd for osd in it["acting"] if osd is not None)
         why = f"the map recorded that its primary, osd.{leader}, was up in it"
-        if it["clean"] is not None:
-            why = f"a report says that the group was clean in epoch {it['clean']}"
+        if blocking["clean"] is not None:
+            why = f"a report says that the group was clean in epoch {blocking['clean']}"
         yield f"  it may have gone read-write: {why}"
 
+    # What ends Down
+
     def ways(self) -> Iterator[str]:
-        starts, losses = self.found["starts"], self.found["losses"]
-        more = starts["more"] or losses["more"]
-        if not starts["sets"] and not losses["sets"] and not more:
+        ways = self.found["ways"]
+        if not ways["sets"]:
             return
         yield ""
-        yield "What brings it back:" if self.found["verdict"] == "Down" else "It would be down, too. What ends that:"
-        price = f"giving up what was written in {epochs(self.found['blocking'])}"
-        begin = ""
-        for osds in starts["sets"]:
-            yield f"  {begin}start {devices(osds)}"
-            begin = "or "
-        begin = "or, " if starts["sets"] else ""
-        for osds in losses["sets"]:
-            yield f"  {begin}{price}, declare {devices(osds)} lost"
-            begin = "or, "
-        if more:
+        yield "What ends Down:" if self.found["verdict"] == "Down" else "It would be Down, too. What ends that:"
+        if ways["any"] is not None and ways["any"]["least"] > 1:
+            yield f"  any {ways['any']['least']} of {devices(ways['any']['osds'])} will do, such as"
+        yield from self.outcomes(ways["sets"])
+        if ways["more"]:
             yield "  (there may be others)"
+
+    def last_resort(self) -> Iterator[str]:
+        if self.found.get("last_resort"):
+            yield ""
+            yield "Last resort, with no way back. First image each disk, or export what it has of the group (ceph-objectstore-tool"
+            yield "--op export). A device that is declared lost is lost to all of its groups."
+            yield from self.outcomes(self.found["last_resort"])
+
+    def outcomes(self, ways: List[Shown]) -> Iterator[str]:
+        for at, way in enumerate(ways):
+            deeds = [f"start {devices(way['start'])}"] if way["start"] else []
+            deeds += [f"declare {devices(way['lost'])} lost"] if way["lost"] else []
+            yield f"  {'or ' if at else ''}{' and '.join(deeds)}"
+            then = way["then"]
+            yield "    what it is then isn't known: the log takes no more" if then is None else f"    then {then['verdict']}: {then['says']}"
+            yield from (f"    it goes on without what was written in {epochs([it])}, at least: {self.loss(it)}" for it in way["intervals"] if it["writes"] != "readable")
+            if way["unreadable"]:
+                yield "    no object can be read then: too few devices are left of all that ever served"
+
+    def loss(self, it: Shown) -> str:
+        if it["writes"] == "away":
+            return f"{devices(it['down'])}, which {are(len(it['down']))} down, may have it"
+        return "too few of the devices that took it are left"
 
 
 def summary_lines(found: Shown) -> Iterator[str]:
@@ -213,6 +264,7 @@ def summary_lines(found: Shown) -> Iterator[str]:
     if found["devices"]:
         yield ""
     for it in found["devices"]:
-        does = [("blocks", it["blocks"]), ("is waited for by", it["awaited"])]
-        told = ", and ".join(f"{verb} {counted(count, 'group')}" for verb, count in does if count)
-        yield f"osd.{it['osd']} {told}"
+        alone = f", and alone frees {it['frees']}" if it["frees"] else ""
+        does = [f"blocks {counted(it['blocks'], 'group')}{alone}"] if it["blocks"] else []
+        does += [f"has yet to be heard by {counted(it['awaited'], 'group')}"] if it["awaited"] else []
+        yield f"osd.{it['osd']} {', and '.join(does)}"

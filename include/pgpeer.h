@@ -14,6 +14,8 @@
  *   that is waited for, or an atomic in sequentially consistent order stands between its calls. Two sessions share nothing.
  * - No call is made from a signal handler, or in the child that a process with threads forked.
  *
+ * A line and a name are as many bytes as is said: a NUL among them ends neither.
+ *
  * Anything else that is wrong has a status. The library takes memory by malloc, realloc and free.
  */
 #ifndef PGPEER_H
@@ -26,6 +28,12 @@
 #ifdef __cplusplus
 extern "C" {
 #endif
+
+/* The version of this header, in parts and as pgp_version gives it. */
+#define PGP_VERSION_MAJOR 0
+#define PGP_VERSION_MINOR 1
+#define PGP_VERSION_PATCH 0
+#define PGP_VERSION (PGP_VERSION_MAJOR * 10000 + PGP_VERSION_MINOR * 100 + PGP_VERSION_PATCH)
 
 /* A session. `pgp_session session = PGP_SESSION;` has it filled with zeros. */
 typedef struct pgp_session {
@@ -269,6 +277,12 @@ uint32_t pgp_compact_log(pgp_session *session, size_t *left_out);
 
 /* The version of the library: ten thousand times the first part, a hundred times the second, and the third. */
 uint32_t pgp_version(void);
+
+/* Whether the library that the program runs with is of this header: its structs are those of all versions of the same first two
+ * parts. A program that is linked with the shared object asks once, before its first session. */
+static inline bool pgp_fits_header(void) {
+    return pgp_version() / 100 == PGP_VERSION / 100;
+}
 
 /* The name of a status or of another number that answers have, and "unknown" for a number that is none. */
 static inline const char *pgp_status_name(uint32_t status) {

@@ -1,12 +1,13 @@
 #!/usr/bin/env bash
-# Makes the static library for C: libpgpeer.a, its header pgpeer.h, the shared object libpgpeer.so and pgpeer.pc for pkg-config.
+# Makes the library for C: libpgpeer.a, its header pgpeer.h, the shared object libpgpeer.so.0 with the link libpgpeer.so to it,
+# pgpeer.pc for pkg-config, and the files of the CMake package pgpeer. Of all symbols only the calls of the header can be seen.
 #
 #     tools/build_c_library.sh [--after-gate] [FOLDER]
 #
 # FOLDER is crates/pgp_c/out/c where nothing is said. The crate pgp_c is proved and built by `rt lib` first; in a fresh clone that
 # proves all crates below it. With --after-gate it is proved and built over the libraries that `rt ci` proved just before, so that
 # no other crate is proved again; `rt lib` does it where checks have left all libraries that pgp_c names. Where there is neither,
-# nothing is made, and the status is 3. Needs `rt` and a C compiler, $CC or cc, with ar.
+# nothing is made, and the status is 3. Needs `rt`, a C compiler, $CC or cc, and ar, ld and objcopy.
 set -eu
 
 root=$(cd -- "$(dirname -- "${BASH_SOURCE[0]}")/.." && pwd)
@@ -88,21 +89,34 @@ mkdir -p -- "${1:-$crate/out/c}"
 folder=$(cd -- "${1:-$crate/out/c}" && pwd)
 
 (cd -- "$work" && ar x "$crate/out/libpgp_c.a" && ar x "$heap")
-rm -f -- "$folder/libpgpeer.a"
-ar rcsD "$folder/libpgpeer.a" "$work"/*.o
-"${CC:-cc}" -shared -o "$folder/libpgpeer.so" -Wl,--whole-archive "$folder/libpgpeer.a" -Wl,--no-whole-archive
-cp -- "$root/include/pgpeer.h" "$folder/pgpeer.h"
+ld -r -o "$work/whole" "$work"/*.o
+objcopy --wildcard --keep-global-symbol='pgp_*' "$work/whole" "$work/pgpeer.o"
+echo 'PGPEER_0 { global: pgp_*; local: *; };' >"$work/map"
+rm -f -- "$folder"/libpgpeer.*
+ar rcsD "$folder/libpgpeer.a" "$work/pgpeer.o"
+"${CC:-cc}" -shared -o "$folder/libpgpeer.so.0" "$work/pgpeer.o" -Wl,-soname,libpgpeer.so.0 -Wl,--version-script="$work/map"
+ln -s libpgpeer.so.0 "$folder/libpgpeer.so"
+cp -- "$root/include/pgpeer.h" "$root/share/cmake/pgpeer-config.cmake" "$folder"
 
-# The version that pgp_version gives: ten thousand times the first part, a hundred times the second, and the third.
+# The version that pgp_version gives: ten thousand times the first part, a hundred times the second, and the third. What works
+# with one version works with later ones of the same first two parts.
 number=$(sed -n 's/^const VERSION: u32 = \([0-9]*\);$/\1/p' -- "$crate/src/lib.rt")
+series=$((number / 10000)).$((number / 100 % 100))
+version=$series.$((number % 100))
 cat >"$folder/pgpeer.pc" <<END
-libdir=$folder
-includedir=$folder
+libdir=\${pcfiledir}
+includedir=\${pcfiledir}
 
 Name: pgpeer
 Description: peering core of an object store with placement groups
-Version: $((number / 10000)).$((number / 100 % 100)).$((number % 100))
+Version: $version
 Libs: -L\${libdir} -l:libpgpeer.a
 Cflags: -I\${includedir}
+END
+cat >"$folder/pgpeer-config-version.cmake" <<END
+set(PACKAGE_VERSION $version)
+if("\${PACKAGE_FIND_VERSION_MAJOR}.\${PACKAGE_FIND_VERSION_MINOR}" STREQUAL "$series" AND NOT PACKAGE_FIND_VERSION VERSION_GREATER PACKAGE_VERSION)
+    set(PACKAGE_VERSION_COMPATIBLE TRUE)
+endif()
 END
 echo "$folder"

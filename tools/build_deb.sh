@@ -1,9 +1,9 @@
 #!/usr/bin/env bash
 # Makes a Debian package of what tools/install.sh installs, with /usr as its prefix.
 #
-#     DEBFULLNAME=.. DEBEMAIL=.. tools/build_deb.sh [--program FILE] FOLDER
+#     DEBFULLNAME=.. DEBEMAIL=.. tools/build_deb.sh [--program FILE] [--library LIBRARY] FOLDER
 #
-# Writes FOLDER/pgpeer_VERSION_ARCH.deb, and prints its name; VERSION is what the program says. FILE is as for
+# Writes FOLDER/pgpeer_VERSION_ARCH.deb, and prints its name; VERSION is what the program says. FILE and LIBRARY are as for
 # tools/install.sh. The maintainer is DEBFULLNAME at DEBEMAIL, and both have to be set. The program is stripped where `strip` is
 # there. Where SOURCE_DATE_EPOCH is set, the changelog is of that second. Needs dpkg-deb.
 set -eu
@@ -15,13 +15,19 @@ fail() {
     exit 2
 }
 
-program=()
-if [ "${1:-}" = --program ] && [ $# -gt 1 ]; then
-    program=(--program "$2")
+parts=()
+library=
+while [ $# -gt 1 ]; do
+    case $1 in
+        --program) ;;
+        --library) library=yes ;;
+        *) break ;;
+    esac
+    parts+=("$1" "$2")
     shift 2
-fi
+done
 if [ $# -ne 1 ] || [ ! -d "$1" ]; then
-    fail "usage: DEBFULLNAME=.. DEBEMAIL=.. tools/build_deb.sh [--program FILE] FOLDER"
+    fail "usage: DEBFULLNAME=.. DEBEMAIL=.. tools/build_deb.sh [--program FILE] [--library LIBRARY] FOLDER"
 fi
 folder=$1
 case ${DEBEMAIL:-} in
@@ -36,7 +42,7 @@ trap 'rm -rf -- "$stage"' EXIT
 chmod 755 "$stage"
 umask 022
 
-PYTHON=/usr/bin/python3 DESTDIR=$stage "$root/tools/install.sh" ${program[@]+"${program[@]}"} /usr >/dev/null
+PYTHON=/usr/bin/python3 DESTDIR=$stage "$root/tools/install.sh" ${parts[@]+"${parts[@]}"} /usr >/dev/null
 bin=$stage/usr/bin/pgpeer doc=$stage/usr/share/doc/pgpeer
 version=$("$bin" --version)
 version=${version#pgpeer }
@@ -46,7 +52,7 @@ arch=$(dpkg --print-architecture)
 if command -v strip >/dev/null && [ "$(head -c 4 "$bin" | tail -c 3)" = ELF ]; then
     strip --strip-unneeded --remove-section=.comment --remove-section=.note "$bin"
 fi
-gzip -9 -n "$stage"/usr/share/man/man1/*
+gzip -9 -n "$stage"/usr/share/man/man*/*
 install -d "$stage/usr/share/zsh/vendor-completions"
 mv "$stage"/usr/share/zsh/site-functions/_* "$stage/usr/share/zsh/vendor-completions"
 rmdir "$stage/usr/share/zsh/site-functions"
@@ -74,6 +80,10 @@ gzip -9 -n -c "$stage/changelog" >"$doc/changelog.gz"
 rm "$stage/changelog"
 
 mkdir "$stage/DEBIAN"
+if [ -n "$library" ]; then
+    echo 'libpgpeer 0 pgpeer' >"$stage/DEBIAN/shlibs"
+    echo 'activate-noawait ldconfig' >"$stage/DEBIAN/triggers"
+fi
 cat >"$stage/DEBIAN/control" <<END
 Package: pgpeer
 Version: $version

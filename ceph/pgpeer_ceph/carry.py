@@ -1,13 +1,15 @@
 """What the verbs that write scripts have in common: their options, and how they end."""
 
 import argparse
-from typing import Callable
+import contextlib
+import os
+from typing import Callable, Optional
 
 from .epochs import side_path, side_text
 from .history import Script
 from .nodes import Unusable, compact
 from .notes import Notes
-from .output import tell, write
+from .output import is_stream, tell, write, write_files
 
 # Causes of the map that play no part where acting sets are Ceph's.
 PLACING = ("primary affinities", "upmaps", "primary_temp")
@@ -39,10 +41,20 @@ def finish(options: argparse.Namespace, make: Callable[[argparse.Namespace, Note
         tell(WHERE)
     if options.strict and notes.things:
         raise Unusable("the map can't be carried over whole, and --strict was given")
-    text = "".join(f"{compact(line)}\n" for line in made.lines)
-    if options.output and made.epochs is not None:
-        write(side_text(made.epochs, made.numbers), side_path(options.output))
-    elif made.epochs is not None and made.epochs.offset:
-        tell(f"epochs: Ceph's are those of the script and {made.epochs.offset} more; --output SCRIPT keeps that beside the script")
-    write(text, options.output)
+    keep(made, options.output)
     return 0
+
+
+def keep(made: Script, path: Optional[str]) -> None:
+    """Writes a script, and beside it how its epochs and Ceph's go together, where it has those: both or neither."""
+    text = "".join(f"{compact(line)}\n" for line in made.lines)
+    if path is None or is_stream(path):
+        if made.epochs is not None and made.epochs.offset:
+            tell(f"epochs: Ceph's are those of the script and {made.epochs.offset} more; --output SCRIPT keeps that beside the script")
+        write(text, path)
+    elif made.epochs is not None:
+        write_files({side_path(path): side_text(made.epochs, made.numbers), path: text})
+    else:
+        write(text, path)
+        with contextlib.suppress(FileNotFoundError):
+            os.unlink(side_path(path))  # of another script, which stood here

@@ -139,11 +139,11 @@ class Cluster:
             raise Unusable(f"{self.program} refused what was to be tried: {told}")
         self.notes.tell("lines of the script that the program refused", told)
 
-    def reasons(self, group: Group) -> Reasons:
+    def reasons(self, group: Group, with_losses: bool = False) -> Reasons:
         """Why a group doesn't serve, in Ceph's epochs."""
         own = self.in_script(group)
         part = self.parts.of([own])
-        return explained(self.program, part.lines, group_text(part.names[own]), self.epochs)
+        return explained(self.program, part.lines, group_text(part.names[own]), self.epochs, with_losses)
 
     def unheard(self, group: Group, view: View) -> List[Tuple[int, int]]:
         """The members that a group waits to hear from."""

@@ -80,8 +80,8 @@ def groups_text(options: argparse.Namespace) -> str:
     for group, view in told.views.items():
         name = group_text(numbers.in_ceph(group))
         if wanted:
-            why = explained(options.program, [line for _, line, _ in entries], group_text(group), epochs)
-            lines += lines_of(Told(name, view, told.history(group), epochs, why, infos=told.infos(group)), options.losses)
+            why = explained(options.program, [line for _, line, _ in entries], group_text(group), epochs, options.losses)
+            lines += lines_of(Told(name, view, told.history(group), epochs, why, infos=told.infos(group)))
         else:
             lines.append(head(view, name, epochs))
     return "".join(f"{line}\n" for line in lines)

@@ -43,11 +43,11 @@ class Folder:
         found = (re.fullmatch(r"([0-9]{1,10})\.osd\.json", name) for name in os.listdir(self.path))
         return sorted(int(it[1]) for it in found if it)
 
-    def keep_notes(self, notes: Notes) -> None:
-        """Keeps what couldn't be fetched, unless nothing was."""
+    def keep_notes(self, notes: Notes, **more: Any) -> None:
+        """Keeps what couldn't be fetched, and what else is to be known then, unless nothing was fetched."""
         if not os.listdir(self.path):
             return
-        self.keep(NOTES, {"not_fetched": {cause: list(things) for cause, things in notes.things.items()}})
+        self.keep(NOTES, {"not_fetched": {cause: list(things) for cause, things in notes.things.items()}, **more})
 
 
 class FetchedMaps:

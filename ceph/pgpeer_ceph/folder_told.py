@@ -77,7 +77,7 @@ def blockers(views: Dict[Group, View]) -> Iterator[str]:
 # Some groups
 
 
-def told_of(cluster: Cluster, group: Group) -> Told:
+def told_of(cluster: Cluster, group: Group, with_losses: bool) -> Told:
     """All that is known of a group."""
     view = cluster.views([group]).get(group)
     if view is None or "ok" not in view:
@@ -89,15 +89,15 @@ def told_of(cluster: Cluster, group: Group) -> Told:
     agree, rule = rule_of(cluster, group, view)
     named = "" if agree else rule or "another state, and no rule of ours says why"
     infos = cluster.parts.infos.get(own, {})
-    return Told(group_text(group), view, history, cluster.epochs, cluster.reasons(group), cluster.said.get(group), named, infos)
+    return Told(group_text(group), view, history, cluster.epochs, cluster.reasons(group, with_losses), cluster.said.get(group), named, infos)
 
 
 def groups_text(cluster: Cluster, groups: Iterable[Group], with_losses: bool) -> Iterator[str]:
     """Groups at length, each with what of it wasn't carried."""
     for at, group in enumerate(groups):
-        told = told_of(cluster, group)
+        told = told_of(cluster, group, with_losses)
         yield from [""] if at else []
-        yield from lines_of(told, with_losses)
+        yield from lines_of(told)
         devices = {osd for it in (told.view, *told.view["intervals"]) for osd in (*it["acting"], *it["up"]) if osd is not None}
         yield from caveats(cluster.notes, [group], False, devices)
 

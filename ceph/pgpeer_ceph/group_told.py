@@ -48,7 +48,7 @@ def blocking_text(view: View, first: int, members: List[Member], history: Histor
     return f"; down: {osds_text(down)}" if down and not pool.are_enough(slots) else ""
 
 
-def lines_of(told: Told, with_losses: bool = False) -> Iterator[str]:
+def lines_of(told: Told) -> Iterator[str]:
     """All that is told of a group."""
     yield head(told.view, told.name, told.epochs)
     if told.said is not None:
@@ -56,7 +56,7 @@ def lines_of(told: Told, with_losses: bool = False) -> Iterator[str]:
     yield f"  {backfill_text(told) or told.why.says}"
     yield from places(told)
     yield from intervals(told)
-    for text in (ending(told.why), few_text(told), lost_text(told.why) if with_losses else ""):
+    for text in (ending(told.why), lost_text(told.why)):
         if text:
             yield f"  {text}"
 
@@ -124,15 +124,3 @@ def backfill_text(told: Told) -> str:
     up, acting = members_of(said.up, pool), members_of(told.view["acting"], pool)
     return (f"Its acting set has {len(acting)} member{'' if len(acting) == 1 else 's'}, and its up set enough: it waits for backfill to "
             f"{osds_text(osd for osd, _ in up - acting)}, and for no device that is down.") if are_enough(up, pool) else ""
-
-
-def few_text(told: Told) -> str:
-    """That a group serves with fewer complete copies than reading needs."""
-    if told.view["verdict"] != "Serve":
-        return ""
-    acting, heard = members_of(told.view["acting"], told.pool()), told.why.whole.get("heard", ())
-    complete = {(it["from"][0], it["from"][1]) for it in heard if it["complete"]} & acting
-    if told.pool().are_enough(slot for _, slot in complete):
-        return ""
-    named = ", ".join(member_text(it, told.pool()) for it in sorted(complete)) or "none"
-    return f"Fewer copies are complete than reading needs ({named}): what the others lack can't be read before they have it"

@@ -12,6 +12,10 @@ OPTIONS = {"-c": "conf", "--conf": "conf", "-n": "name", "--name": "name", "--id
            "-k": "keyring", "--keyring": "keyring", "-m": "mon_host"}
 LIMITS = {"client_mount_timeout": "10", "rados_mon_op_timeout": "30", "rados_osd_op_timeout": "15"}  # seconds
 OF_MGR = ("pg dump", "osd df")
+WITH_OPTIONS: Dict[Tuple[str, ...], Dict[str, Any]] = {  # words that no prefix has
+    ("osd", "df", "tree"): {"prefix": "osd df", "output_method": "tree"},
+    ("pg", "dump", "pgs"): {"prefix": "pg dump", "dumpcontents": ["pgs"]},
+}
 
 
 class Connection:
@@ -61,9 +65,7 @@ def command_of(words: Tuple[str, ...]) -> Dict[str, Any]:
     """A command of words, as Ceph's daemons take it."""
     if words[-1].isdigit():
         return {"prefix": " ".join(words[:-1]), "epoch": int(words[-1])}
-    if words == ("osd", "df", "tree"):
-        return {"prefix": "osd df", "output_method": "tree"}
-    return {"prefix": " ".join(words)}
+    return WITH_OPTIONS.get(words) or {"prefix": " ".join(words)}
 
 
 def connected(ceph: Ceph) -> Optional[Connection]:

@@ -198,6 +198,8 @@ def tell_pool(pool: Node, label: str, notes: Notes) -> None:
         notes.tell("pools without the flag hashpspool, so places differ", label)
     if pool.has("tier_of") and pool.key("tier_of").whole() >= 0:
         notes.tell("cache tiers", f"{label} of pool {pool.key('tier_of').whole()}")
+    if pool.count_of("peering_crush_bucket_count"):
+        notes.tell("stretch mode", f"{label} wants members in {pool.count_of('peering_crush_bucket_count')} buckets of a type")
 
 
 def read_pools(osdmap: Node, notes: Notes) -> List[Pool]:

@@ -1,9 +1,10 @@
 """How the command writes, and how it ends: with one line on standard error and status 2 where something is wrong."""
 
+import contextlib
 import os
 import sys
 import tempfile
-from typing import Callable, Optional, Union
+from typing import Callable, Dict, Optional, Union
 
 from .nodes import Unusable
 from .notes import one_line
@@ -17,21 +18,34 @@ def write(text: Union[str, bytes], path: Optional[str] = None) -> None:
         sys.stdout.write(str(text))
         sys.stdout.flush()
         return
-    if os.path.exists(path) and not os.path.isfile(path):
+    if is_stream(path):
         with open(path, "wb") as place:
             place.write(bytes_of(text))
         return
-    path = os.path.realpath(path)
-    folder = os.path.dirname(path)
-    handle, part = tempfile.mkstemp(prefix=".part-", dir=folder)
+    write_files({path: text})
+
+
+def is_stream(path: str) -> bool:
+    """Tells whether a path is that of a device or a pipe."""
+    return os.path.exists(path) and not os.path.isfile(path)
+
+
+def write_files(texts: Dict[str, Union[str, bytes]]) -> None:
+    """Writes files, all of them whole, or none."""
+    parts: Dict[str, str] = {}
     try:
-        with os.fdopen(handle, "wb") as file:
-            file.write(bytes_of(text))
-        os.chmod(part, 0o644)
-        os.replace(part, path)
-    except BaseException:
-        os.unlink(part)
-        raise
+        for name, text in texts.items():
+            path = os.path.realpath(name)
+            handle, parts[path] = tempfile.mkstemp(prefix=".part-", dir=os.path.dirname(path))
+            with os.fdopen(handle, "wb") as file:
+                file.write(bytes_of(text))
+            os.chmod(parts[path], 0o644)
+        for path, part in parts.items():
+            os.replace(part, path)
+    finally:
+        for part in parts.values():
+            with contextlib.suppress(FileNotFoundError):
+                os.unlink(part)
 
 
 def bytes_of(text: Union[str, bytes]) -> bytes:

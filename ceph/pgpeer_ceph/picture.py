@@ -5,7 +5,7 @@ ever in up or acting has a row, with a bar where it stood in acting: its colour 
 read-write, a line in it that only a report says so, and the current interval stands apart. Below stand the verdicts, and for
 whom the group waits: devices that are down and block it, and devices that have yet to be heard. The verdict is unknown where no
 report of the interval was kept so far. At the head stands what `pgpeer explain` says of the group after the last entry: why it
-doesn't serve, and what brings it back; at the foot, what losses would. The last column's marks follow that too. Beyond 200 columns runs of entries that change nothing for the group are folded, and then the
+doesn't serve, and what brings it back. The last column's marks follow that too. Beyond 200 columns runs of entries that change nothing for the group are folded, and then the
 oldest, but never the intervals that block the group, the last that may have gone read-write, or (as many as have room) others
 whose members have to be heard.
 """
@@ -20,11 +20,11 @@ from .columns import folded
 from .epochs import Epochs
 from .marks import LETTERS, line, rect, room_for, style, text, triangle
 from .steps import UNKNOWN, Group, Span, Step
-from .words import at_end, ending, lost_text, reason
+from .words import at_end, ending, reason
 
 LEFT, RIGHT, TOP = 84, 24, 66  # TOP with one line of words at the head
 ROW, BAR, WORDS = 26, 14, 18  # heights
-MOST_LINES = 5  # of words at the head, and at the foot
+MOST_LINES = 5  # of words at the head
 STRIP, WAIT = 24, 16
 LEAST_WIDTH = 760
 FOLDED = "\u2026"  # under a column that stands for several entries
@@ -44,7 +44,6 @@ class Picture:
         self.width = max(LEAST_WIDTH, self.x(len(self.columns)) + RIGHT)
         self.head = self.wrapped(f"At the end: {at_end(group.steps[-1], group.pool, group.why)}")
         self.helps = self.wrapped(ending(group.why) if group.why else "", 8.7)
-        self.foot = self.wrapped(lost_text(group.why) if group.why else "")
         self.rows = sorted({osd for span in self.spans if self.places[span.first] for osd in span.devices()})
         self.has_empty = any(None in span.acting for span in self.spans if self.places[span.first])
         self.waited = sorted({osd for at in range(len(self.columns)) for osd in self.waits_at(at)})
@@ -52,8 +51,7 @@ class Picture:
         self.top = TOP + WORDS * (len(self.head) - 1) + (WORDS * len(self.helps) + 6 if self.helps else 0)
         self.strip_y = self.top + ROW * (len(self.rows) + self.has_empty) + 28
         self.waits_y = self.strip_y + STRIP + (26 if self.waited else 8) + (14 if self.has_folded else 0)
-        self.foot_y = self.waits_y + WAIT * len(self.waited) + 16
-        self.legend_y = self.foot_y + WORDS * len(self.foot) + (4 if self.foot else 0)
+        self.legend_y = self.waits_y + WAIT * len(self.waited) + 16
 
     def x(self, column: float) -> float:
         return LEFT + self.wide * column
@@ -72,7 +70,7 @@ class Picture:
         size = f'viewBox="0 0 {self.width:.0f} {height:.0f}" width="{self.width:.0f}" height="{height:.0f}"'
         head = [f'<svg xmlns="http://www.w3.org/2000/svg" {size} role="img">', f"<title>{escape(about)}</title>", style()]
         ground = [rect(0, 0, self.width, height, "page"), *self.titles(), *self.band(), *self.grid(), *self.epochs()]
-        body = [*self.bars(), *self.events(), *self.verdicts(), *self.waits(), *self.folds(), *self.feet()]
+        body = [*self.bars(), *self.events(), *self.verdicts(), *self.waits(), *self.folds()]
         return "\n".join([*head, *ground, *body, *legend, "</svg>"]) + "\n"
 
     def titles(self) -> Iterator[str]:
@@ -83,11 +81,6 @@ class Picture:
             yield text(16, 45 + WORDS * at, words)
         for at, words in enumerate(self.helps, len(self.head)):
             yield text(16, 48 + WORDS * at, words, "helps")
-
-    def feet(self) -> Iterator[str]:
-        """What losses would end, and give up."""
-        for at, words in enumerate(self.foot):
-            yield text(16, self.foot_y + 10 + WORDS * at, words, "soft")
 
     def wrapped(self, words: str, wide: float = 7.44) -> List[str]:
         """The words in as many lines as they need; what has no room in the last that there may be is left out."""
@@ -243,7 +236,7 @@ class Picture:
         for at, column in enumerate(self.columns):
             if column.is_mixed():
                 first, last = column.epochs()
-                top, bottom = self.top + 6, self.foot_y - 14
+                top, bottom = self.top + 6, self.legend_y - 14
                 x = self.x(at)
                 words = f"{len(column.steps)} entries"
                 yield rect(x + 1, top, self.wide - 2, bottom - top, "fold", f"epochs {self.named.text(first)} to {self.named.text(last)}: {words}")

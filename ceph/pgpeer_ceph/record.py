@@ -13,7 +13,7 @@ from typing import IO, Any, Dict, List
 
 from .calls import ENDING, NoCommand, ceph_of, end_all
 from .fetch import Fetch
-from .fetched import FetchedMaps
+from .fetched import NOTES, FetchedMaps
 from .maps import group_text, read_group
 from .nodes import MOST, Node, Unusable
 from .output import tell
@@ -26,6 +26,7 @@ PLACE = ("up", "up_primary", "acting", "acting_primary", "mapping_epoch")
 PASSING = {"scrubbing", "deep", "snaptrim", "snaptrim_wait", "laggy", "wait"}  # words of a state that say nothing of peering
 GAP = "rounds of record without an answer"
 TRIMMED = "maps that the monitor didn't give, as after they were trimmed"
+WHOLE = "whole"  # in the file of what couldn't be kept: the epoch up to which nothing else is lacking
 LEAST_SECONDS = 10  # in which a round may begin queries
 AGAIN = 6  # rounds after which a group that stays inactive is queried again
 MOST_NEW = 64  # maps of a round, beyond which the monitor is asked first which it has
@@ -51,7 +52,7 @@ class Record(Fetch):
         self.rounds = 0
         self.silent_since, self.is_told_large = "", False
         self.maps = FetchedMaps(self.ceph, self.folder, self.notes, self.side_by_side)
-        self.last = max(self.folder.epochs(), default=0)
+        self.last = 0  # the epoch up to which all is kept that the monitor had
         self.most = bytes_of(options.size)
         self.clear_parts()
         self.read_told()
@@ -65,14 +66,15 @@ class Record(Fetch):
                 os.unlink(self.folder.at(name))
 
     def read_told(self) -> None:
-        """Reads what an earlier call kept of each group, and what it couldn't keep."""
+        """Reads what an earlier call kept of each group, what it couldn't keep, and how far it had come."""
         before = self.folder.kept("pgs.json")
-        notes = self.folder.kept("fetch.json")
+        notes = self.folder.kept(NOTES)
         try:
             self.told = {name_of(stat): slim(stat) for stat in stats_of(before)} if before else {}
             for cause in (GAP, TRIMMED):
                 for thing in notes.key("not_fetched").items_of(cause) if notes else ():
                     self.notes.tell(cause, thing.text())
+            self.last = notes.count_of(WHOLE) if notes and self.folder.epochs() else 0
         except Unusable:
             self.told = {}
 
@@ -119,7 +121,7 @@ class Record(Fetch):
         for things in self.notes.things.values():
             for old in list(things)[:-MOST_THINGS]:
                 del things[old]
-        self.folder.keep_notes(self.notes)
+        self.folder.keep_notes(self.notes, **{WHOLE: self.last})
 
     def keep_round(self) -> None:
         """Keeps what is new; reports before maps, so that no report is of a later epoch than the last map."""
@@ -184,18 +186,18 @@ class Record(Fetch):
         new = self.new_maps() if self.maps.versions else self.first_maps()
         if not new:
             return False
-        is_newer, self.last = new[-1] > self.last, new[-1]
         self.maps.fetch_trees()
         self.maps.fetch_last_map()
         if not self.options.no_groups:
             self.maps.fetch_sets()
         self.goes_on()
+        is_newer, self.last = new[-1] > self.last, new[-1]
         last = self.maps.versions[self.last]
         self.maps.versions = {epoch: version for epoch, version in self.maps.versions.items() if version == last}
         return is_newer
 
     def first_maps(self) -> List[int]:
-        """Keeps the maps that the monitor has, from the last on that an earlier call kept."""
+        """Keeps the maps that the monitor has, from the epoch on up to which an earlier call kept all."""
         self.maps.fetch(max(self.options.since, self.last), MOST)
         self.goes_on()
         found = sorted(self.maps.versions)

@@ -233,7 +233,7 @@ class Report:
         if len(classes) > MOST_TOLD:
             self.notes.append(f"why {count_of(sum(map(len, classes[MOST_TOLD:])), 'group')} that are alike to few others don't serve (explain tells it)")
         with concurrent.futures.ThreadPoolExecutor(os.cpu_count() or 1) as pool:
-            found = list(pool.map(lambda groups: self.cluster.reasons(groups[0]), classes[:MOST_TOLD]))
+            found = list(pool.map(lambda groups: self.cluster.reasons(groups[0], True), classes[:MOST_TOLD]))
         return {group: it for groups, it in zip(classes, found) for group in groups}
 
     # What if

@@ -148,12 +148,13 @@ def is_active(state: str) -> bool:
 
 
 def infos_of_stats(stat: Node, pools: Dict[int, Pool]) -> List[Info]:
-    """The infos of a group that `ceph pg dump` says is active, whose acting members are then complete; none of another."""
-    group, state = read_group(stat.key("pgid")), stat.key("state").text()
-    if not is_active(state) or group[0] not in pools:
+    """The infos of a group that `ceph pg dump` says is active, or was when its primary told of it last, and whose acting members were
+    complete then; none of another."""
+    group, words = read_group(stat.key("pgid")), stat.key("state").text().split("+")
+    if "active" not in words or group[0] not in pools:
         return []
     clean, stamp = stat.count_of("last_epoch_clean"), stat.key("reported_epoch").count()
-    les = clean if "clean" in state.split("+") else max(clean, stat.count_of("mapping_epoch"))
+    les = clean if "clean" in words else max(clean, stat.count_of("mapping_epoch"))
     versions = read_version(stat.key("version")), read_version(stat.key("log_start"))
     is_erasure = pools[group[0]].k is not None
     members = [(osd, at if is_erasure else 0) for at, osd in enumerate(places_of(stat.key("acting"))) if osd is not None]

@@ -1,12 +1,14 @@
 """Which devices to start, so that no group is Down: a small set, in the order in which it frees most."""
 
 import collections
+import itertools
 from typing import Counter, Dict, FrozenSet, Iterable, List, NamedTuple, Set
 
 from .maps import Group
 from .reasons import Reasons
 
 Devices = FrozenSet[int]
+MOST_SETS = 1000  # of one group
 MOST_TRIED = 40  # sets that are held against each other at each step
 
 
@@ -37,8 +39,12 @@ class Plan(NamedTuple):
 
 
 def need_of(why: Reasons) -> Need:
-    """What the program names."""
-    return Need(frozenset(frozenset(osds) for osds in why.starts["sets"]), bool(why.starts["more"]))
+    """What the program names; of any so many devices the first sets, where there are very many."""
+    shape = why.ways["any"]
+    if shape is None:
+        return Need(frozenset(frozenset(way["start"]) for way in why.ways["sets"]), bool(why.ways["more"]))
+    sets = list(itertools.islice(itertools.combinations(shape["osds"], shape["least"]), MOST_SETS + 1))
+    return Need(frozenset(map(frozenset, sets[:MOST_SETS])), len(sets) > MOST_SETS)
 
 
 def plan_of(needs: Dict[Group, Need]) -> Plan:

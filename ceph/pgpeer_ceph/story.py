@@ -121,7 +121,7 @@ class Story:
         found = {(info.group, info.member, info.stamp): info for query in self.queries for info in query.infos}
         asked = asked_of(self.queries)
         for stat in self.stats:
-            for info in infos_of_stats(stat, self.pools):
+            for info in infos_of_stats(stat, self.pools) if self.is_sure(stat) else ():
                 late = info._replace(stamp=max(info.stamp, self.first))
                 if late.group not in self.active:
                     late = late._replace(log_tail=late.last_update)  # it was active then
@@ -133,6 +133,12 @@ class Story:
         last, devices = self.snapshots[-1], self.devices()
         kept = (info for info in found.values() if tell_faults(info, last.pools, devices, last.epoch, self.notes))
         return within_room([info for info in kept if info.stamp >= self.first], MOST_ENTRIES - (last.epoch - self.first), self.notes)
+
+    def is_sure(self, stat: Node) -> bool:
+        """Tells whether what the primary said of a group holds of its time: of a stale group it does where the primary is down since,
+        so that it says nothing of the current interval."""
+        led = self.snapshots[-1].devices.get(stat.key("acting_primary").whole()) if stat.has("acting_primary") else None
+        return "stale" not in stat.key("state").text().split("+") or led is None or not led.up
 
     def stopped(self) -> Iterator[Info]:
         """The infos of stopped devices, as of the last epoch that each names, so that none counts as heard."""

@@ -2,7 +2,7 @@
 
 from typing import Any, Dict, Iterable, Optional, Sequence
 
-from .reasons import Reasons, epochs_text, sets_text, together
+from .reasons import Reasons, sets_text, together, way_text
 from .steps import UNKNOWN, Pool, Step
 
 
@@ -64,13 +64,13 @@ def ending(why: Reasons) -> str:
     if not why.blocking:
         return ""
     head = "What ends Down" if why.verdict == "Down" else "It would be Down, too; what ends that"
-    return f"{head}: start {sets_text(why.starts)} (it may wait for backfill then)" if why.starts["sets"] else f"{head}: no start does"
+    return f"{head}: start {sets_text(why.ways, why.epochs)} (it may wait for backfill then)" if why.ways["sets"] else f"{head}: no start does"
 
 
 def lost_text(why: Reasons) -> str:
     """Which devices to declare lost, where nothing else is left."""
-    losses = why.whole.get("losses") or {}
-    if not losses.get("sets"):
+    ways = why.whole.get("last_resort")
+    if not ways:
         return ""
-    return (f"Last resort, with no way back: declare lost {sets_text(losses)}, which gives up what was written in "
-            f"{epochs_text(why.blocking, why.epochs)} at least")
+    head = "Last resort, with no way back, and for all groups of a device (image its disk, or export what it has, first)"
+    return f"{head}: {'; or '.join(way_text(way, why.epochs) for way in ways)}"

@@ -1,6 +1,7 @@
 """A browser for tests: Chromium without a window, driven by its DevTools protocol over a websocket."""
 
 import base64
+import contextlib
 import json
 import os
 import re
@@ -150,4 +151,6 @@ class Browser:
     def close(self):
         self.run.kill()
         self.run.wait()
-        self.room.cleanup()
+        shutil.rmtree(self.room.name, ignore_errors=True)  # its children may write for a moment still
+        with contextlib.suppress(OSError):
+            self.room.cleanup()

@@ -17,9 +17,9 @@ from pgpeer_ceph.notes import Notes
 from pgpeer_ceph.parts import Parts
 from pgpeer_ceph.reasons import Reasons
 from pgpeer_ceph.sets import printed_sets
-from pgpeer_ceph.starts import Need, lower_bound, plan_of
+from pgpeer_ceph.starts import Need, lower_bound, need_of, plan_of
 from pgpeer_ceph.steps import History, Pool
-from pgpeer_ceph.words import ending, lost_text
+from pgpeer_ceph.words import ending
 
 OUTAGE, STRAW2 = MAPS / "outage", MAPS / "straw2-outage"
 needs_program = unittest.skipUnless(HAS_PROGRAM, f"no program {PROGRAM}")
@@ -31,9 +31,9 @@ def need(*sets, is_cut=False):
 
 
 def reasons(**more):
-    ways = {"sets": [[0], [3, 5]], "more": False}
+    ways = {"any": None, "sets": [{"start": osds, "intervals": []} for osds in ([0], [3, 5])], "more": False}
     blocking = [{"first": 3, "last": 4, "down": [0, 3, 5], "lacks": 1, "acting": [0, 3, 5], "clean": None}]
-    fields = {"says": "It waits.", "verdict": "Down", "blocking": blocking, "starts": ways, "losses": ways, "unheard": [], "whole": {"losses": ways}, **more}
+    fields = {"says": "It waits.", "verdict": "Down", "blocking": blocking, "ways": ways, "unheard": [], **more}
     return Reasons(**{key: value for key, value in fields.items() if key in Reasons._fields})
 
 
@@ -87,7 +87,7 @@ class Explained(Folders):
         self.assertIn("  up [2, none, 3], acting [2, none, 3], led by osd.2, since epoch 62", lines)
         self.assertIn("  What ends Down: start osd.1 (it may wait for backfill then)", lines)
         self.assertFalse([line for line in lines if "lost" in line])
-        self.assertIn("  Last resort, with no way back: declare lost osd.1", self.told("explain", "4.1", "--losses"))
+        self.assertIn(": declare osd.1 lost, then ", self.told("explain", "4.1", "--losses"))
 
     def test_what_members_told_of_their_copies(self):
         lines = self.told("explain", "4.1").splitlines()
@@ -298,32 +298,27 @@ class Words(unittest.TestCase):
     def test_what_ends_it(self):
         self.assertEqual(ending(reasons()), "What ends Down: start osd.0, or osd.3 and osd.5 (it may wait for backfill then)")
         self.assertEqual(ending(reasons(verdict="NoPrimary")), "It would be Down, too; what ends that: start osd.0, or osd.3 and osd.5 (it may wait for backfill then)")
-        self.assertEqual(ending(reasons(starts={"sets": [], "more": False})), "What ends Down: no start does")
+        self.assertEqual(ending(reasons(ways={"any": None, "sets": [], "more": False})), "What ends Down: no start does")
         self.assertEqual(ending(reasons(blocking=[], verdict="Serve")), "")
 
-    def test_losses_are_the_last_resort(self):
-        wanted = "Last resort, with no way back: declare lost osd.0, or osd.3 and osd.5, which gives up what was written in epochs 3 to 4 at least"
-        self.assertEqual(lost_text(reasons()), wanted)
-        self.assertEqual(lost_text(reasons(whole={"losses": {"sets": [], "more": False}})), "")
+    def test_any_so_many_devices_are_all_their_sets(self):
+        shape = {"any": {"least": 2, "osds": [0, 1, 3]}, "more": False, "sets": [{"start": [0, 1], "intervals": []}]}
+        self.assertEqual(need_of(reasons(ways=shape)), need((0, 1), (0, 3), (1, 3)))
+        shape["any"] = {"least": 8, "osds": list(range(16))}
+        self.assertTrue(need_of(reasons(ways=shape)).is_cut)
 
-    def told(self, verdict, pool, up=(), heard=(), acting=(0, 1)):
+    def told(self, verdict, pool, up=(), acting=(0, 1)):
         view = {"verdict": verdict, "acting": list(acting)}
         history = History(1, 0)
         history.made = pool
         said = Said(5, "peered", list(up), list(acting), [], True)
-        return group_told.Told("1.0", view, history, Epochs(), reasons(whole={"heard": list(heard)}), said)
+        return group_told.Told("1.0", view, history, Epochs(), reasons(), said)
 
     def test_a_group_that_waits_for_backfill_says_so(self):
         wanted = "Its acting set has 1 member, and its up set enough: it waits for backfill to osd.4, and for no device that is down."
         self.assertEqual(group_told.backfill_text(self.told("Short", COPIES, up=(0, 4), acting=(0,))), wanted)
         self.assertEqual(group_told.backfill_text(self.told("Short", COPIES, up=(0,))), "")
         self.assertEqual(group_told.backfill_text(self.told("Down", COPIES, up=(0, 4))), "")
-
-    def test_fewer_complete_copies_than_reading_needs(self):
-        code = Pool("erasure", 2, 3, 2)
-        heard = [{"from": [0, 0], "complete": True}, {"from": [1, 1], "complete": False}]
-        self.assertIn("(osd.0 (shard 0))", group_told.few_text(self.told("Serve", code, heard=heard)))
-        self.assertEqual(group_told.few_text(self.told("Serve", code, heard=[{**it, "complete": True} for it in heard])), "")
 
     def test_what_a_note_is_about(self):
         for thing, group, devices, wanted in (

@@ -61,7 +61,7 @@ class Command(Room):
         self.assertTrue(run.stdout.startswith(b'{"op":"inc"'))
 
     def test_the_repository_has_each_verb_once(self):
-        names = {it.name for it in (ROOT / "tools").glob("*.py")}
+        names = {it.name for it in (ROOT / "dev").glob("*.py")}
         self.assertFalse(names & {it.name for it in (HERE.parent / "pgpeer_ceph").glob("*.py")})
 
 

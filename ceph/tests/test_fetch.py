@@ -219,7 +219,10 @@ class Rados:
         return self.answer(words["pgid"] + ".query.json")
     def mgr_command(self, text, more):
         self.told("mgr", text)
-        return self.answer("pgs.json") if "pg dump" in text else (0, b'{{"nodes":[],"stray":[],"summary":{{}}}}', "")
+        prefix = json.loads(text)["prefix"]
+        if prefix == "osd df":
+            return 0, b'{{"nodes":[],"stray":[],"summary":{{}}}}', ""
+        return self.answer("pgs.json") if prefix == "pg dump" else (-22, b"", "command not known")
     def mon_command(self, text, more):
         words = json.loads(text)
         self.told("mon", text)
@@ -231,6 +234,8 @@ class Rados:
             return 0, str(words["epoch"]).encode(), ""
         if words.get("epoch") == 63:
             return -2, b"", "map was trimmed"
+        if words["prefix"] != "osd dump":
+            return -22, b"", "command not known"
         return self.answer(str(words.get("epoch", 64)) + ".osd.json")
 """
 
@@ -254,6 +259,12 @@ class ByLibrados(Fetch):
         self.assertLessEqual({"62.osd.json", "62.groups.txt", "64.osdmap", "62.crush.json", "3.0.query.json", "pgs.json"}, self.names())
         self.assertIn("gave no answer: 4.1\n", told)
         self.assertIn("after they were trimmed: epoch 63\n", told)
+
+    def test_it_serves_a_record_too(self):
+        run = self.run_tool("record", self.out, "--from", 62, "--rounds", 2, "--every", 0.01)
+        self.assertEqual((run.returncode, run.stderr), (0, ""))
+        self.assertIn('mgr {"prefix": "pg dump", "dumpcontents": ["pgs"], "format": "json"}', self.calls())
+        self.assertLessEqual({"62.osd.json", "62.groups.txt", "64.osdmap", "62.crush.json", "3.0.query.json", "pgs.json", "df.json"}, self.names())
 
     def test_without_a_connection_commands_are_called(self):
         self.commands("ceph")

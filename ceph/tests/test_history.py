@@ -250,8 +250,22 @@ class Reports(Case):
         unclean = {**stat, "state": "active+undersized", "mapping_epoch": 50, "acting": [0]}
         infos = reports.infos_of_stats(nodes.Node(unclean, ""), pools)
         self.assertEqual([(it.member, it.les, it.last_epoch_clean) for it in infos], [((0, 0), 50, 45)])
-        for state in ("down", "peering", "stale+active+clean", "incomplete", "activating"):
+        for state in ("down", "peering", "stale+down", "incomplete", "activating"):
             self.assertEqual(reports.infos_of_stats(nodes.Node({**stat, "state": state}, ""), pools), [], state)
+
+    def test_what_a_stale_group_said_holds_of_its_time_where_its_primary_is_down(self):
+        shutil.copy(STRAW2 / "64.osd.json", self.folder)
+        shutil.copy(STRAW2 / "64.groups.txt", self.folder)
+        up = {it["osd"] for it in json.loads((STRAW2 / "64.osd.json").read_text())["osds"] if it["up"]}
+        for osd in range(4):
+            stat = {"pgid": "3.1", "state": "stale+active+clean", "version": "50'7", "log_start": "40'2", "last_epoch_clean": 45, "mapping_epoch": 44,
+                    "reported_epoch": 50, "up": [osd], "acting": [osd], "up_primary": osd, "acting_primary": osd}
+            (self.folder / "pgs.json").write_text(json.dumps({"pg_stats": [stat]}))
+            status, out, err = written("script", self.folder)
+            self.assertEqual(status, 0, err)
+            infos = [json.loads(line)["from"] for line in out.splitlines() if '"op":"info"' in line]
+            self.assertEqual(infos, [] if osd in up else [[osd, 0]])
+        self.assertTrue(0 < len(up) < 4)
 
     def test_an_info_that_was_clean_after_its_stamp_is_left_out(self):
         info = reports.Info((3, 0), (0, 0), 9, 4, 4, 9, (4, 1), (0, 0), True)

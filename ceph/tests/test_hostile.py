@@ -199,6 +199,27 @@ class Surroundings(Hostile):
             self.assertTrue(run.stderr.splitlines()[-1] == f"{TELLS}writing: No space left on device", run)
             self.assertEqual((run.returncode, run.stderr.count(TELLS), "Traceback" in run.stderr), (2, 1, False), run)
 
+    def test_a_script_and_its_epochs_are_kept_both_or_neither(self):
+        script, side = self.folder / "x.jsonl", self.folder / "x.epochs.json"
+        words = [*TOOL, "script", str(MAPS / "straw2-outage"), "-o", str(script)]
+        for before in ("", "kept"):
+            if before:
+                script.write_text(before)
+                side.write_text(before)
+            run = subprocess.run(["bash", "-c", 'ulimit -f 1; "$@"', "bash", *words], capture_output=True, text=True)
+            self.assertEqual((run.returncode, run.stderr.splitlines()[-1]), (2, f"{TELLS}writing: File too large"))
+            self.assertEqual({path.name: path.read_text() for path in self.folder.iterdir()}, {"x.jsonl": before, "x.epochs.json": before} if before else {})
+            script.unlink(missing_ok=True)
+            side.unlink(missing_ok=True)
+        side.mkdir()
+        run = subprocess.run(words, capture_output=True, text=True)
+        self.assertEqual((run.returncode, run.stderr.count(TELLS), list(self.folder.iterdir())), (2, 1, [side]))
+        side.rmdir()
+        self.assertEqual(subprocess.run(words, capture_output=True).returncode, 0)
+        self.assertTrue(script.exists() and side.exists())
+        self.assertEqual(written("map", "--alone", MAPS / "outage/d-blocked.osd.json", "-o", script)[0], 0)
+        self.assertFalse(side.exists())  # which was of another script
+
     def test_a_pipe_that_is_closed(self):
         for words in self.calls():
             words = words[: words.index("-o")] if "-o" in words else words
@@ -215,7 +236,7 @@ class Surroundings(Hostile):
             path.write_text(path.read_text().replace('"rbd"', '"b\u00fccher \U0001f4da"'))
         env = {**os.environ, "PYTHONIOENCODING": "ascii", "PYTHONUTF8": "0", "LC_ALL": "C", "PYTHONCOERCECLOCALE": "0"}
         page = self.folder / "b\u00fccher.html"
-        for words in calls_on(folder, page).values():
+        for words in (*calls_on(folder, page).values(), *self.calls()):
             run = subprocess.run([*TOOL, *map(str, words)], capture_output=True, env=env)
             self.assertEqual(run.returncode, 0, run)
             self.assertTrue((run.stdout + run.stderr).isascii(), run)

@@ -356,12 +356,6 @@ class Examples(unittest.TestCase):
         self.assertIn("map.jsonl, line 8 was refused: UnknownKey (leaf)\n", err)
         self.assertEqual(len(self.group("map", 1, 5).steps), 4)
 
-    def test_the_pictures_of_the_documents_are_those_of_the_examples(self):
-        for name, group in (("blocked", "1.0"), ("lost_shard", "2.3"), ("ceph_outage", "1.0")):
-            status, out, _ = written(["--program", PROGRAM, str(ROOT / f"examples/{name}.jsonl"), group])
-            self.assertEqual(status, 0)
-            self.assertEqual(out, (ROOT / f"docs/{name}.svg").read_text())
-
     def test_the_answers_beside_the_examples_are_the_programs(self):
         for name in ("blocked", "lost_shard", "ceph_outage", "clean", "grouped"):
             lines = (ROOT / f"examples/{name}.jsonl").read_text().splitlines()

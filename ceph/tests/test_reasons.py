@@ -20,13 +20,20 @@ BLOCKING = [{"first": 3, "last": 4, "down": [0, 1], "lacks": 1, "acting": [0, 1]
 DOWN = "It waits for osd.0 and osd.1, which are down: writes may have been taken in epochs 3 to 4, and too few of those who took them are at hand."
 
 
-def ways(*sets, more=False):
-    return {"sets": [list(osds) for osds in sets], "more": more}
+INTERVAL = {"first": 3, "last": 4, "acting": [0, 1], "down": [1], "gone": [], "lost": [0], "lost_before": [], "up": [], "writes": "away"}
+
+
+def way(start=(), lost=(), intervals=(), then="Waiting", unreadable=False):
+    return {"start": list(start), "lost": list(lost), "intervals": list(intervals), "then": {"says": "", "verdict": then}, "unreadable": unreadable}
+
+
+def ways(*sets, more=False, any=None):
+    return {"any": any, "more": more, "sets": [way(osds) for osds in sets]}
 
 
 def reasons(**more):
-    told = {"says": DOWN, "verdict": "Down", "blocking": BLOCKING, "starts": ways((0,), (1,)), "losses": ways((0,), (1,)), "unheard": []}
-    return group_reasons.Reasons(**{**told, **more}, whole={"losses": {**told, **more}["losses"]})
+    told = {"says": DOWN, "verdict": "Down", "blocking": BLOCKING, "ways": ways((0,), (1,)), "unheard": []}
+    return group_reasons.Reasons(**{**told, **more})
 
 
 def picture(steps, why, epochs=Epochs()):
@@ -42,6 +49,8 @@ class Words(unittest.TestCase):
         for sets, wanted in (
             (ways((0,)), "osd.0"), (ways((0,), (3, 5)), "osd.0, or osd.3 and osd.5"),
             (ways((1, 2, 3), more=True), "osd.1, osd.2 and osd.3 (there may be others)"),
+            (ways((0, 1), any={"least": 2, "osds": [0, 1, 3]}), "any 2 of osd.0, osd.1 and osd.3"),
+            ({**ways(), "sets": [way([0], intervals=[INTERVAL])]}, "osd.0 (without what was written in epochs 3 to 4 at least)"),
         ):  # fmt: skip
             self.assertEqual(group_reasons.sets_text(sets), wanted)
 
@@ -64,10 +73,16 @@ class Words(unittest.TestCase):
         then = "(it may wait for backfill then)"
         self.assertEqual(ending(reasons()), f"What ends Down: start osd.0, or osd.1 {then}")
         self.assertEqual(ending(reasons(verdict="NoPrimary")), f"It would be Down, too; what ends that: start osd.0, or osd.1 {then}")
-        wanted = "Last resort, with no way back: declare lost osd.0, or osd.1, which gives up what was written in epochs 3 to 4 at least"
-        self.assertEqual(lost_text(reasons(starts=ways())), wanted)
-        none = reasons(verdict="Waiting", blocking=[], starts=ways(), losses=ways())
+        none = reasons(verdict="Waiting", blocking=[], ways=ways())
         self.assertEqual((ending(none), lost_text(none)), ("", ""))
+
+    def test_losses_are_the_last_resort(self):
+        self.assertEqual(lost_text(reasons(whole={"last_resort": []})), "")
+        resort = [way([0], [1], [INTERVAL, {**INTERVAL, "first": 5, "last": 5, "writes": "readable"}]), way((), [0, 1], [], "Short", True)]
+        head = "Last resort, with no way back, and for all groups of a device (image its disk, or export what it has, first)"
+        wanted = f"{head}: start osd.0 and declare osd.1 lost, then Waiting (without what was written in epochs 3 to 4 at least)"
+        wanted += "; or declare osd.0 and osd.1 lost, then Short, and no object can be read then"
+        self.assertEqual(lost_text(reasons(whole={"last_resort": resort})), wanted)
 
     def test_for_whom_a_group_waits(self):
         self.assertEqual(reasons().waits(), {0: "blocks", 1: "blocks"})
@@ -83,39 +98,34 @@ class Pictures(unittest.TestCase):
         words = " ".join(words_of(root))
         self.assertIn(f"At the end: Down. {DOWN}", words)
         self.assertIn(ending(reasons()), words)
-        self.assertIn(lost_text(reasons()), words)
-        self.assertGreater(len(words_of(root)), 4)
 
-    def test_what_helps_stands_above_the_chart_and_losses_below(self):
+    def test_what_helps_stands_above_the_chart(self):
         drawing = picture(self.STEPS, reasons())
         places = {node.text: float(node.get("y")) for node in xml.fromstring(drawing.svg()).iter("{http://www.w3.org/2000/svg}text")}
         self.assertLess(places[ending(reasons())], drawing.top - 12)
-        self.assertGreater(places[drawing.foot[0]], drawing.waits_y)
 
     def test_what_is_written_has_room(self):
         drawing = picture(self.STEPS, reasons())
-        for words, size in [*((it, 12) for it in drawing.head + drawing.foot), *((it, 14) for it in drawing.helps)]:
+        for words, size in [*((it, 12) for it in drawing.head), *((it, 14) for it in drawing.helps)]:
             self.assertLess(16 + room_for(words, size), drawing.width)
-        self.assertLess(drawing.waits_y + pictures.WAIT * len(drawing.waited), drawing.foot_y)
-        self.assertLess(drawing.foot_y + pictures.WORDS * (len(drawing.foot) - 1) + 10, drawing.legend_y)
+        self.assertLess(drawing.waits_y + pictures.WAIT * len(drawing.waited), drawing.legend_y)
         self.assertEqual(drawing.top, pictures.TOP + pictures.WORDS * (len(drawing.head) + len(drawing.helps) - 1) + 6)
 
     def test_what_has_no_room_is_left_out(self):
-        drawing = picture(self.STEPS, reasons(starts=ways(*((osd, osd + 1) for osd in range(100)))))
+        drawing = picture(self.STEPS, reasons(ways=ways(*((osd, osd + 1) for osd in range(100)))))
         self.assertEqual(len(drawing.helps), pictures.MOST_LINES)
         self.assertTrue(drawing.helps[-1].endswith("\u2026"))
 
-    def test_nothing_stands_at_the_foot_of_a_group_that_serves(self):
-        why = reasons(verdict="Serve", says="It serves, led by osd.0.", blocking=[], starts=ways(), losses=ways())
+    def test_nothing_helps_a_group_that_serves(self):
+        why = reasons(verdict="Serve", says="It serves, led by osd.0.", blocking=[], ways=ways())
         drawing = picture([step(1)], why)
-        self.assertEqual((drawing.head, drawing.helps, drawing.foot), (["At the end: Serve. It serves, led by osd.0."], [], []))
-        self.assertEqual(drawing.foot_y, drawing.legend_y)
+        self.assertEqual((drawing.head, drawing.helps), (["At the end: Serve. It serves, led by osd.0."], []))
 
     def test_who_lacks_something_where_it_serves_is_told_in_the_words_of_the_program(self):
         last = step(1)
         last.view["missing"] = [{"member": [2, 0], "state": "missing", "objects": {"a": [1, 1], "b": [1, 2]}}]
         says = "It serves, led by osd.0. osd.2 lacks 2 objects."
-        why = reasons(verdict="Serve", says=says, blocking=[], starts=ways(), losses=ways())
+        why = reasons(verdict="Serve", says=says, blocking=[], ways=ways())
         self.assertEqual(picture([last], why).head, [f"At the end: Serve. {says}"])
 
     def test_the_last_columns_marks_are_by_it_and_earlier_ones_by_the_answers(self):
@@ -132,7 +142,7 @@ class Pictures(unittest.TestCase):
 STUB = """#!{python}
 import json, sys
 script = sys.stdin.read()
-told = {{"says": " ".join(sys.argv[1:]) + ": " + script, "verdict": "Serve", "blocking": [], "starts": {{}}, "losses": {{}}, "unheard": []}}
+told = {{"says": " ".join(sys.argv[1:]) + ": " + script, "verdict": "Serve", "blocking": [], "ways": {{}}, "unheard": []}}
 {then}
 """
 
@@ -173,7 +183,7 @@ class Program(unittest.TestCase):
 @unittest.skipUnless(HAS_PROGRAM, f"no program {PROGRAM}")
 class Examples(unittest.TestCase):
     def test_the_pictures_say_what_the_program_says(self):
-        for words in sorted(it for it in (ROOT / "examples").glob("explain_*.txt") if not it.name.endswith(".summary.txt")):
+        for words in sorted(it for it in (ROOT / "examples").glob("explain_*.txt") if "." not in it.stem):
             script = words.with_suffix(".jsonl")
             status, out, err = written(["--program", PROGRAM, str(script), "1.0"])
             self.assertEqual((status, err), (0, ""), script.name)

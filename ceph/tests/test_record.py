@@ -194,12 +194,37 @@ class Going(Record):
             run = self.started("--from", 55)
             time.sleep(0.15 + 0.12 * at)
             run.kill()
-            run.wait()
+            run.communicate()
             for path in self.out.glob("[!.]*.json"):
                 json.loads(path.read_text())
         self.record("--from", 55)
         self.assert_whole()
-        self.assertEqual(self.maps()[-1], 64)  # what a killed call hadn't got of earlier ones isn't asked for again
+        self.assertEqual(self.epochs_kept(), self.whole_epochs(55))
+
+    def epochs_kept(self):
+        """What is kept of each epoch, and of none."""
+        return {name: (self.out / name).read_text() for name in self.names() if name.endswith((".osd.json", ".crush.json", ".groups.txt", ".osdmap"))}
+
+    def whole_epochs(self, since):
+        """The same, of a call that nothing ends."""
+        shutil.rmtree(self.out, ignore_errors=True)
+        self.record("--from", since)
+        return self.epochs_kept()
+
+    def test_killed_within_its_first_call_it_keeps_later_what_was_lacking(self):
+        self.reach(60)
+        wanted = self.whole_epochs(55)
+        for text in ("osd dump 57", "crush dump", "osdmaptool"):
+            shutil.rmtree(self.out)
+            (self.folder / "calls").write_text("")
+            self.faults((text, 99, "slow"))
+            run = self.started("--from", 55)
+            self.until(lambda: text in (self.folder / "calls").read_text() and 60 in self.maps())
+            run.kill()
+            run.communicate()
+            self.faults()
+            self.record("--from", 55)
+            self.assertEqual(self.epochs_kept(), wanted, text)
 
     def test_after_a_long_silence_the_monitor_is_asked_which_maps_it_has(self):
         self.reach(55)

@@ -97,8 +97,8 @@ class Report(Room):
         self.assertIn("epochs 20 to 21", why["says"])
         self.assertEqual(len(why["helps"]), 1)
         self.assertTrue(why["helps"][0].startswith("What ends Down: start osd.0 "))
-        self.assertIn("declare lost osd.0", why["losses"][0])
-        self.assertIn("declare lost osd.0", data["helps"]["losses"][0]["what"])
+        self.assertIn("declare osd.0 lost", why["losses"][0])
+        self.assertIn("declare osd.0 lost", data["helps"]["losses"][0]["what"])
         self.assertEqual(data["serving"], 0)
 
     def test_the_table_of_what_if(self):

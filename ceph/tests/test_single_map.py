@@ -304,6 +304,20 @@ class NotCarried(Case):
         for text in (f"upmaps: {group}", f"primary_temp: {group}", "primary affinities: osd.4 has 0.5"):
             self.assertIn(text, told)
 
+    def test_what_later_versions_have(self):
+        """Rules without sizes, primaries that the balancer chose, pools that stretch, and steps of several devices a host."""
+        group = f"{self.osdmap['pools'][0]['pool']}.1"
+        self.osdmap["pg_upmap_primaries"] = [{"pgid": group, "primary_osd": 2}]
+        self.osdmap["pools"][0]["peering_crush_bucket_count"] = 2
+        for rule in self.crush["rules"]:
+            del rule["min_size"], rule["max_size"]
+        told = self.told()
+        self.assertIn(f"upmaps: {group}\n", told)
+        self.assertIn(f"stretch mode: pool {self.osdmap['pools'][0]['pool']} 'rep' wants members in 2 buckets of a type\n", told)
+        self.assertNotIn("don't serve the pool's size", told)
+        self.crush["rules"][0]["steps"][1:2] = [{"op": "choose_msr", "num": 0, "type": "host"}, {"op": "choose_msr", "num": 1, "type": "osd"}]
+        self.assertIn("pools whose rule takes or chooses nothing, left out", self.told())
+
     def test_a_rule_of_two_choices_and_one_of_the_other_mode(self):
         steps = self.crush["rules"][0]["steps"]
         steps.insert(1, {"op": "choose_firstn", "num": 2, "type": "rack"})

@@ -9,14 +9,15 @@ import subprocess
 import sys
 import tempfile
 import time
-from typing import Any, Dict, List, Optional, Sequence, Union
+from typing import Any, Dict, List, Optional, Sequence, Tuple, Union
 
 ROOT = pathlib.Path(__file__).resolve().parents[2]
 PACKAGE = ROOT / "follow"
-PROGRAM = ROOT / "crates/pgpeer/out/pgpeer"
 STARTING = 30.0  # seconds within which a node or a follower has to answer
 sys.path.insert(0, str(PACKAGE))
+sys.path.append(str(ROOT / "dev"))
 
+from built import PROGRAM, command_line  # noqa: E402, F401
 from pgpeer_follow import gateway  # noqa: E402
 
 
@@ -64,7 +65,7 @@ class Process:
 class Cluster:
     """Nodes of etcd and followers. As a context it ends what it started."""
 
-    def __init__(self, nodes: int = 3, followers: int = 3, program: str = str(PROGRAM), words: Sequence[str] = (), level: str = "info"):
+    def __init__(self, nodes: int = 3, followers: int = 3, program: str = PROGRAM, words: Sequence[str] = (), level: str = "info"):
         self.room = tempfile.TemporaryDirectory(prefix="pgpeer-follow-")
         folder = pathlib.Path(self.room.name)
         ports = free_ports(2 * nodes + followers)
@@ -109,6 +110,15 @@ class Cluster:
 
     def to_etcd(self) -> gateway.Gateway:
         return gateway.Gateway(gateway.Access(self.endpoints.split(",")))
+
+
+def counted(found: Sequence[Tuple[bool, str]]) -> int:
+    """Prints checks, each with whether it is right, and how many are wrong; gives the status."""
+    for is_well, says in found:
+        print(f"{'right' if is_well else 'WRONG'}: {says[:400]}")
+    wrong = sum(not is_well for is_well, _ in found)
+    print(f"{len(found)} checks, {wrong} wrong")
+    return 1 if wrong else 0
 
 
 def wait_for(address: Union[int, str], folder: pathlib.Path, seconds: float = STARTING) -> Dict[str, Any]:

@@ -20,13 +20,10 @@ import time
 from collections import Counter
 from typing import List
 
-HERE = pathlib.Path(__file__).resolve().parent
-sys.path.insert(0, str(HERE))
-
-import cluster  # noqa: E402
-import outages  # noqa: E402
-import truth  # noqa: E402
-from load import Load  # noqa: E402
+import cluster
+import outages
+import truth
+from load import Load
 
 SETTLING = 180.0  # seconds within which all follow, once nothing is killed any more
 
@@ -111,8 +108,7 @@ def settled(made: cluster.Cluster, load: Load) -> List[truth.Answer]:
 
 
 def options() -> argparse.Namespace:
-    parser = argparse.ArgumentParser(description=__doc__, formatter_class=argparse.RawDescriptionHelpFormatter)
-    parser.add_argument("--program", default=os.environ.get("PGPEER", str(cluster.PROGRAM)), metavar="PATH")
+    parser = cluster.command_line(__doc__)
     parser.add_argument("--minutes", type=float, default=60.0, metavar="T")
     parser.add_argument("--pause", type=float, default=0.05, metavar="S", help="seconds, of each client after a line")
     parser.add_argument("--every", type=int, default=2000, metavar="N", help="places between two marks")

@@ -8,31 +8,21 @@ node of etcd that leads. Then the whole log is read from etcd. Each answer, with
 lines of the log up to that place, byte for byte; where the log was compacted, on what `pgpeer compact` left there and the lines
 since. On the whole log without compaction it has to be the same but for its count. Each line that was acknowledged has to stand at
 its place, once. A follower that begins anew, from a snapshot, has to answer as the others do, and what two snapshots make needless
-has to be deleted. Then bad lines get their named refusals, and a
-follower without etcd goes on (`outages.py`).
+has to be deleted. Then bad lines get their named refusals, and a follower without etcd goes on (`outages.py`).
 
-The last line is `N checks, M wrong`. Status 1: something was wrong. Status 3: etcd isn't there.
+The last line is `N checks, M wrong`. Status 1: something was wrong. Needs etcd.
 """
 
-import argparse
-import os
-import pathlib
 import random
-import shutil
 import sys
 import threading
 import time
 from typing import List
 
-HERE = pathlib.Path(__file__).resolve().parent
-sys.path.insert(0, str(HERE))
-
-import cluster  # noqa: E402
-import outages  # noqa: E402
-import truth  # noqa: E402
-from load import Load  # noqa: E402
-
-SKIPPED = 3
+import cluster
+import outages
+import truth
+from load import Load
 
 
 def disturb(made: cluster.Cluster, load: Load, total: int, notes: List[str]) -> None:
@@ -79,16 +69,12 @@ def checked(program: str, lines: int, every: int, seed: str, seconds: float) -> 
 
 
 def main() -> int:
-    parser = argparse.ArgumentParser(description=__doc__, formatter_class=argparse.RawDescriptionHelpFormatter)
-    parser.add_argument("--program", default=os.environ.get("PGPEER", str(cluster.PROGRAM)), metavar="PATH")
+    parser = cluster.command_line(__doc__)
     parser.add_argument("--lines", type=int, default=5000, metavar="N")
     parser.add_argument("--every", type=int, default=1200, metavar="N", help="places between two marks")
     parser.add_argument("--seed", default="1", metavar="S")
     parser.add_argument("--seconds", type=float, default=600.0, metavar="T", help="for all lines at most")
     options = parser.parse_args()
-    if not shutil.which("etcd"):
-        print("skipped, since etcd isn't there")
-        return SKIPPED
     checks, wrong = checked(options.program, options.lines, options.every, options.seed, options.seconds)
     print(f"{checks} checks, {wrong} wrong")
     return 1 if wrong else 0

@@ -10,23 +10,18 @@ the line that was refused, told again with its token, has to stand once. The las
 root, `ip` and etcd, and was skipped.
 """
 
-import argparse
 import os
 import pathlib
 import random
-import shutil
 import subprocess
 import sys
 import tempfile
 import time
 from typing import List, Tuple
 
-HERE = pathlib.Path(__file__).resolve().parent
-sys.path.insert(0, str(HERE))
-
-import cluster  # noqa: E402
-from outages import INFO  # noqa: E402
-from workload import Workload  # noqa: E402
+import cluster
+from outages import INFO
+from workload import Workload
 
 SKIPPED = 3
 HOSTS = 3
@@ -163,16 +158,11 @@ def back(hosts: Hosts, at: int, other: int, place: int, what: str) -> Found:
 
 
 def main() -> int:
-    parser = argparse.ArgumentParser(description=__doc__, formatter_class=argparse.RawDescriptionHelpFormatter)
-    parser.add_argument("--program", default=os.environ.get("PGPEER", str(cluster.PROGRAM)), metavar="PATH")
-    options = parser.parse_args()
-    if os.geteuid() or not shutil.which("ip") or not shutil.which("etcd"):
-        print("skipped, since this needs root, ip and etcd")
-        return SKIPPED
+    options = cluster.command_line(__doc__).parse_args()
     try:
         ip("netns", "add", f"pgf{os.getpid()}-try")
         ip("netns", "del", f"pgf{os.getpid()}-try")
-    except subprocess.CalledProcessError:
+    except (OSError, subprocess.CalledProcessError):
         print("skipped, since no namespaces can be made here")
         return SKIPPED
     found: Found = []
@@ -183,11 +173,7 @@ def main() -> int:
         found += cut(hosts, first, "the host of the leading node")
         others = {*range(HOSTS)} - {first, hosts.leader()}
         found += cut(hosts, min(others), "another host")
-    for is_well, says in found:
-        print(f"{'right' if is_well else 'WRONG'}: {says[:400]}")
-    wrong = sum(not is_well for is_well, _ in found)
-    print(f"{len(found)} checks, {wrong} wrong")
-    return 1 if wrong else 0
+    return cluster.counted(found)
 
 
 if __name__ == "__main__":

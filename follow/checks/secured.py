@@ -3,27 +3,18 @@
 
     follow/checks/secured.py [--program PATH]
 
-The last line is `N checks, M wrong`. Status 3: openssl, etcd or etcdctl isn't there, and it was skipped.
+The last line is `N checks, M wrong`. Needs openssl, etcd and etcdctl.
 """
 
-import argparse
-import os
 import pathlib
-import shutil
 import subprocess
 import sys
 import tempfile
 import time
 from typing import List, Tuple
 
-HERE = pathlib.Path(__file__).resolve().parent
-sys.path.insert(0, str(HERE))
-
-import cluster  # noqa: E402
-from outages import INFO  # noqa: E402
-
-SKIPPED = 3
-NEEDS = ("openssl", "etcd", "etcdctl")
+import cluster
+from outages import INFO
 
 
 def made_certificates(folder: pathlib.Path) -> None:
@@ -84,20 +75,10 @@ def checked(folder: pathlib.Path, program: str) -> List[Tuple[bool, str]]:
 
 
 def main() -> int:
-    parser = argparse.ArgumentParser(description=__doc__, formatter_class=argparse.RawDescriptionHelpFormatter)
-    parser.add_argument("--program", default=os.environ.get("PGPEER", str(cluster.PROGRAM)), metavar="PATH")
-    options = parser.parse_args()
-    for it in NEEDS:
-        if not shutil.which(it):
-            print(f"skipped, since {it} isn't there")
-            return SKIPPED
+    options = cluster.command_line(__doc__).parse_args()
     with tempfile.TemporaryDirectory(prefix="pgpeer-follow-") as folder:
         found = checked(pathlib.Path(folder), options.program)
-    for is_well, says in found:
-        print(f"{'right' if is_well else 'WRONG'}: {says}")
-    wrong = sum(not is_well for is_well, _ in found)
-    print(f"{len(found)} checks, {wrong} wrong")
-    return 1 if wrong else 0
+    return cluster.counted(found)
 
 
 if __name__ == "__main__":

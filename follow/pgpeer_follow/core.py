@@ -9,7 +9,7 @@ import io
 import subprocess
 import threading
 import time
-from typing import Callable, Deque, List, Optional, Sequence
+from typing import Callable, Deque, List, NamedTuple, Optional, Sequence, Tuple
 
 from .faults import CoreFault
 
@@ -20,10 +20,20 @@ MOST_LINES, MOST_BYTES = 900_000, 3_900_000_000  # nearly as many as the program
 HANGS = 30.0  # seconds without an answer, after which a program is given up
 
 
+class Program(NamedTuple):
+    """The built program, and the options that its commands get."""
+
+    path: str
+    options: Tuple[str, ...] = ()
+
+    def words(self, command: str) -> List[str]:
+        return [self.path, command, *self.options]
+
+
 class Core:
     """`PROGRAM run`. One caller writes at a time; a thread hands each answer to whoever told the line, in the order of the lines."""
 
-    def __init__(self, program: str, at_end: Callable[["Core"], None]):
+    def __init__(self, program: Program, at_end: Callable[["Core"], None]):
         self.at_end = at_end
         self.waiting: Deque[Answered] = collections.deque()
         self.lock = threading.Lock()
@@ -32,9 +42,9 @@ class Core:
         self.lines = self.bytes = 0  # that it was told
         self.moved = time.monotonic()  # when it last answered, or was told a line with nothing before it
         try:
-            self.child = subprocess.Popen([program, "run"], stdin=subprocess.PIPE, stdout=subprocess.PIPE, bufsize=0)
+            self.child = subprocess.Popen(program.words("run"), stdin=subprocess.PIPE, stdout=subprocess.PIPE, bufsize=0)
         except OSError as fault:
-            raise CoreFault(f"{program} can't be run: {fault.strerror}") from None
+            raise CoreFault(f"{program.path} can't be run: {fault.strerror}") from None
         threading.Thread(target=self.hand_out, name="core", daemon=True).start()
 
     def tell(self, lines: Sequence[bytes], answered: Sequence[Answered]) -> None:
@@ -97,11 +107,11 @@ class Core:
         return bool(self.waiting) and time.monotonic() - self.moved > HANGS
 
 
-def compacted(program: str, script: Sequence[bytes]) -> List[bytes]:
+def compacted(program: Program, script: Sequence[bytes]) -> List[bytes]:
     """The lines of a script that remain where it is compacted. CoreFault: the program didn't say."""
     text = b"".join(line + b"\n" for line in script)
     try:
-        ended = subprocess.run([program, "compact"], input=text, capture_output=True, timeout=COMPACTING, check=False)
+        ended = subprocess.run(program.words("compact"), input=text, capture_output=True, timeout=COMPACTING, check=False)
     except (OSError, subprocess.TimeoutExpired) as fault:
         raise CoreFault(f"compact didn't end: {fault}") from None
     if ended.returncode:

@@ -9,6 +9,7 @@ import time
 from typing import Any, Callable, Dict, Optional, Tuple
 
 from .appender import Appender, Submission
+from .core import Program
 from .election import Election
 from .faults import CoreFault, Fault, NoLog, Unavailable, WrongCluster
 from .gateway import Access, Gateway
@@ -30,7 +31,7 @@ log = logging.getLogger(__name__)
 class Settings:
     """What a follower is told at its start."""
 
-    def __init__(self, program: str, wait: float = 10.0, every: int = 10_000, log_id: str = "", may_make: bool = False):
+    def __init__(self, program: Program, wait: float = 10.0, every: int = 10_000, log_id: str = "", may_make: bool = False):
         self.program, self.wait, self.every = program, wait, every
         self.log_id, self.may_make = log_id, may_make
 

@@ -10,7 +10,7 @@ import threading
 import time
 from typing import Callable, List, Optional, Sequence, Tuple
 
-from .core import Answered, Core, compacted
+from .core import Answered, Core, Program, compacted
 from .faults import CoreFault, NotYet
 from .keys import Entry, digest_of
 from .snapshot import Snapshot
@@ -43,7 +43,7 @@ class Asked:
 class Replica:
     """What the follower has of the log. One thread applies entries, any number ask."""
 
-    def __init__(self, program: str, heard: Heard):
+    def __init__(self, program: Program, heard: Heard):
         self.program, self.heard = program, heard
         self.change = threading.Condition()  # holds what stands below
         self.core: Optional[Core] = None

@@ -2,10 +2,14 @@
 
 import base64
 import threading
+import unittest
 from typing import Any, Callable, Dict, List, Optional
 
+from pgpeer_follow import snapshot
 from pgpeer_follow.faults import Unsure
 from pgpeer_follow.gateway import Done, Gateway, Item
+from pgpeer_follow.keys import Keys
+from pgpeer_follow.log import Log, join
 
 
 def raw(text: str) -> bytes:
@@ -99,3 +103,14 @@ class FakeGateway(Gateway):
 def lost(store: Store) -> None:
     """The next transaction that writes is done, and its answer is lost."""
     store.late.append(Unsure("lost"))
+
+
+class WithLog(unittest.TestCase):
+    """A log in a store of its own."""
+
+    def setUp(self) -> None:
+        self.store = Store()
+        self.keys, self.etcd = Keys("/pgpeer/"), FakeGateway(self.store)
+        self.identity = join(self.keys, self.etcd, may_make=True)
+        self.log = Log(self.keys, self.identity, self.etcd)
+        self.snapshots = snapshot.Store(self.keys, self.identity, self.etcd)

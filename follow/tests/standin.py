@@ -1,5 +1,5 @@
 #!/usr/bin/env python3
-"""Stands in for the built program, by the model in fuzz/: `standin.py run`, `standin.py compact`."""
+"""Stands in for the built program, by the model in fuzz/: `standin.py run`, `standin.py compact`, also with `--format 3`."""
 
 import pathlib
 import sys
@@ -9,8 +9,8 @@ sys.path.insert(0, str(pathlib.Path(__file__).resolve().parents[2] / "fuzz"))
 import model  # noqa: E402
 
 
-def run() -> None:
-    log = model.Model()
+def run(last: int) -> None:
+    log = model.Model(last)
     for line in sys.stdin.buffer:
         answer = log.answer(line.rstrip(b"\n"))
         if answer is not None:
@@ -19,12 +19,13 @@ def run() -> None:
 
 
 def main() -> None:
+    last = 3 if sys.argv[2:] == ["--format", "3"] else 2
     if sys.argv[1] == "run":
-        run()
+        run(last)
     else:
         import compact  # takes longer to load than a run
 
-        text, said = compact.by_model(sys.stdin.buffer.read())
+        text, said = compact.by_model(sys.stdin.buffer.read(), last)
         sys.stdout.buffer.write(text)
         sys.stderr.buffer.write(said)
 

@@ -4,11 +4,11 @@ import threading
 import unittest
 
 import support
-from fake_etcd import FakeGateway, Store, lost
+from fake_etcd import FakeGateway, WithLog, lost
 from pgpeer_follow.appender import Appender
 from pgpeer_follow.faults import Busy, NotYet, TokenUsed, TwoLogs, Unanswered, Unavailable, Unsure, WrongCluster
-from pgpeer_follow.keys import Keys, digest_of, value_of
-from pgpeer_follow.log import Log, join
+from pgpeer_follow.keys import digest_of, value_of
+from pgpeer_follow.log import Log
 from pgpeer_follow.tokens import Tokens
 
 
@@ -31,11 +31,9 @@ class FakeReplica:
             self.heard(known)
 
 
-class WithAppender(unittest.TestCase):
+class WithAppender(WithLog):
     def setUp(self):
-        self.store = Store()
-        keys, etcd = Keys("/pgpeer/"), FakeGateway(self.store)
-        self.log = Log(keys, join(keys, etcd, may_make=True), etcd)
+        super().setUp()
         self.appender = Appender(60.0)
         self.replica = FakeReplica(self.log_of_another(), self.appender.heard)
         self.broken = []

@@ -4,14 +4,13 @@ import threading
 import unittest
 
 from support import wait_until
-from fake_etcd import FakeGateway, Store
+from fake_etcd import WithLog
 from pgpeer_follow import gateway, snapshot
 from pgpeer_follow.election import Election
 from pgpeer_follow.faults import NotYet, TwoLogs, Unavailable
 from pgpeer_follow.gateway import Item
 from pgpeer_follow.keeper import Keeper
-from pgpeer_follow.keys import Keys, value_of
-from pgpeer_follow.log import Log, join
+from pgpeer_follow.keys import value_of
 from pgpeer_follow.reader import Behind, Reader
 from pgpeer_follow.snapshot import Snapshot
 
@@ -35,13 +34,9 @@ class FakeReplica:
             raise NotYet()
 
 
-class WithReader(unittest.TestCase):
+class WithReader(WithLog):
     def setUp(self):
-        self.store = Store()
-        self.keys, self.etcd = Keys("/pgpeer/"), FakeGateway(self.store)
-        self.identity = join(self.keys, self.etcd, may_make=True)
-        self.log = Log(self.keys, self.identity, self.etcd)
-        self.snapshots = snapshot.Store(self.keys, self.identity, self.etcd)
+        super().setUp()
         self.replica = FakeReplica()
         self.reader = Reader(self.keys, self.replica)
 

@@ -15,7 +15,7 @@ import support
 from support import ASK, INFO, MAP, STANDIN, wait_until
 from pgpeer_follow import core as cores
 from pgpeer_follow import replica as replicas
-from pgpeer_follow.core import Core, compacted
+from pgpeer_follow.core import Core, Program, compacted
 from pgpeer_follow.faults import CoreFault, NotYet
 from pgpeer_follow.keys import Entry
 from pgpeer_follow.replica import Replica
@@ -25,16 +25,16 @@ def entries_of(lines, first=1):
     return [Entry(place, f"t{place}", line) for place, line in enumerate(lines, first)]
 
 
-def by_program(command, lines):
+def by_program(command, lines, *options):
     text = b"".join(it + b"\n" for it in lines)
-    return subprocess.run([STANDIN, command], input=text, capture_output=True, check=True).stdout.split(b"\n")[:-1]
+    return subprocess.run([STANDIN, command, *options], input=text, capture_output=True, check=True).stdout.split(b"\n")[:-1]
 
 
 LINES = [MAP, *(INFO % device for device in (0, 1, 2, 0, 1, 9)), b'{"op":"noop"}', INFO % 2]
 
 
 class WithReplica(unittest.TestCase):
-    def made(self, program=STANDIN):
+    def made(self, program=Program(STANDIN)):
         self.heard = {}
         made = Replica(program, lambda known: self.heard.__setitem__(known.place, known.answer))
         self.addCleanup(made.end)
@@ -53,7 +53,7 @@ class WithReplica(unittest.TestCase):
         file = pathlib.Path(room.name) / "program"
         file.write_text(f"#!/bin/sh\n{text}\n")
         file.chmod(file.stat().st_mode | stat.S_IXUSR)
-        return str(file)
+        return Program(str(file))
 
 
 class Answers(WithReplica):
@@ -87,6 +87,14 @@ class Marks(WithReplica):
         self.assertEqual((replica.base.place, list(replica.base.script)), (10, kept))
         self.assertEqual([(it.token, it.place) for it in replica.base.tokens], [(f"t{at}", at) for at in range(1, 10)])
         self.assertEqual([it.answer for it in replica.base.tokens], by_program("run", LINES))
+
+    def test_lines_of_version_3_where_they_are_asked_for(self):
+        straw2 = MAP.replace(b"{", b'{"v":3,', 1).replace(b'"uniform","items":[0,1,2]', b'"straw2","items":[0,1,2],"weights":[1,2,3]')
+        for options in ((), ("--format", "3")):
+            replica = self.made(Program(STANDIN, options))
+            replica.apply([*entries_of([straw2, INFO % 1]), Entry(3, is_mark=True)])
+            kept = by_program("compact", [straw2, INFO % 1], *options)
+            self.assertEqual((len(kept), self.asked(replica)), (2 * bool(options), (3, by_program("run", [*kept, ASK], *options)[-1])))
 
     def test_whoever_begins_from_the_snapshot_answers_alike(self):
         first, second = self.made(), self.made()
@@ -133,7 +141,7 @@ class Restarts(WithReplica):
         wait_until(lambda: len(self.heard) == 9)
 
     def test_a_program_that_is_out_of_memory_at_a_line_is_told_anew(self):
-        flag = self.program("")
+        flag = self.program("").path
         failing = self.program(f'if [ "$1" = run ] && [ -e {flag} ]; then rm {flag}; read line; echo \'{{"code":51,"refused":"Memory"}}\'; sleep 9; fi; exec {STANDIN} "$1"')
         replica = self.made(failing)
         replica.apply(entries_of(LINES))
@@ -142,7 +150,7 @@ class Restarts(WithReplica):
         self.assertEqual([self.heard[it] for it in sorted(self.heard)], by_program("run", LINES))
 
     def test_what_a_program_says_behind_a_line_that_it_had_no_memory_for_is_not_believed(self):
-        flag = self.program("")
+        flag = self.program("").path
         told = 'echo \'{"code":51,"refused":"Memory"}\'; echo \'{"code":40,"refused":"UnknownGroup"}\''
         failing = self.program(f'if [ "$1" = run ] && [ -e {flag} ]; then rm {flag}; read a; read b; {told}; exec sleep 9; fi; exec {STANDIN} "$1"')
         replica = self.made(failing)
@@ -159,14 +167,14 @@ class Restarts(WithReplica):
         self.assertEqual(self.asked(replica), (1, by_program("run", [MAP, ASK])[-1]))
 
     def test_a_program_that_can_t_be_run(self):
-        replica = self.made("/nowhere/pgpeer")
+        replica = self.made(Program("/nowhere/pgpeer"))
         replica.apply(entries_of(LINES))
         with self.assertRaises(CoreFault):
             replica.ask(ASK, 0, time.monotonic() + 0.3)
         self.assertEqual(replica.at(), (9, False))
 
     def test_a_program_that_hangs_is_ended(self):
-        flag = self.program("")
+        flag = self.program("").path
         replica = self.made(self.program(f'if [ -e {flag} ]; then rm {flag}; exec sleep 60; fi; exec {STANDIN} "$1"'))
         replica.apply(entries_of(LINES))
         with unittest.mock.patch.object(cores, "HANGS", 0.2):
@@ -184,7 +192,7 @@ class Restarts(WithReplica):
             self.assertEqual(len(answers), 1)
 
     def test_a_compaction_that_fails_is_tried_again(self):
-        flag = self.program("")
+        flag = self.program("").path
         replica = self.made(self.program(f'if [ "$1" = compact ] && [ -e {flag} ]; then rm {flag}; exit 3; fi; exec {STANDIN} "$1"'))
         replica.apply([*entries_of(LINES), Entry(10, is_mark=True)])
         self.assertEqual(replica.base.place, 10)

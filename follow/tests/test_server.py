@@ -20,6 +20,7 @@ from fake_etcd import FakeGateway, Store
 from support import ASK, INFO, MAP, STANDIN, wait_until
 from pgpeer_follow import envelope, main, server
 from pgpeer_follow import tell as teller
+from pgpeer_follow.core import Program
 from pgpeer_follow.faults import Fault, TwoLogs, Unavailable, WrongCluster
 from pgpeer_follow.follower import Follower, Settings
 from pgpeer_follow.gateway import Access
@@ -40,7 +41,7 @@ class FakeFollower(Follower):
     """A follower of a log in memory."""
 
     def __init__(self, store, wait=60.0):
-        super().__init__(Keys("/pgpeer/"), Access(["http://127.0.0.1:1"]), Settings(STANDIN, wait, 50, may_make=True))
+        super().__init__(Keys("/pgpeer/"), Access(["http://127.0.0.1:1"]), Settings(Program(STANDIN), wait, 50, may_make=True))
         self.store = store
         self.reader = PolledReader(self.keys, self.replica)
 
@@ -256,6 +257,7 @@ class Commands(unittest.TestCase):
             (*good, "--snapshot-every", "0"),
             (*good, "--wait", "0"),
             (*good, "--cluster-id", "x"),
+            (*good, "--format", "1"),
             (*good, "--nothing"),
         ):
             status, said = self.status(*words)

@@ -5,12 +5,11 @@ import unittest
 import zlib
 
 import support
-from fake_etcd import FakeGateway, Store, lost
+from fake_etcd import FakeGateway, WithLog, lost
 from pgpeer_follow import gateway, snapshot
 from pgpeer_follow.election import Election
 from pgpeer_follow.faults import Unavailable, Unsure
-from pgpeer_follow.keys import Keys, value_of
-from pgpeer_follow.log import Log, join
+from pgpeer_follow.keys import value_of
 from pgpeer_follow.snapshot import Broken, Deposed, Snapshot
 from pgpeer_follow.tokens import Known
 
@@ -20,13 +19,9 @@ def random_lines(count, size):
     return tuple(rng.randbytes(size).replace(b"\n", b".") for _ in range(count))
 
 
-class WithStore(unittest.TestCase):
+class WithStore(WithLog):
     def setUp(self):
-        self.store = Store()
-        self.keys, self.etcd = Keys("/pgpeer/"), FakeGateway(self.store)
-        self.identity = join(self.keys, self.etcd, may_make=True)
-        self.log = Log(self.keys, self.identity, self.etcd)
-        self.snapshots = snapshot.Store(self.keys, self.identity, self.etcd)
+        super().setUp()
         self.election = self.candidate("a")
         self.assertTrue(self.election.leads())
         self.fence = self.election.fence()

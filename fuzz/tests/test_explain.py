@@ -66,10 +66,13 @@ class Case:
         return reasons.Reckoned(self.log, GROUP)
 
     def sets(self):
-        """The smallest sets by starting, which are those by declaring lost too."""
-        starts, losses = (self.reckoned().sets(way) for way in reasons.WAYS)
-        assert starts == losses, (starts, losses)
-        return starts
+        """The smallest sets to start; whichever of their devices are declared lost instead, they are enough."""
+        it = self.reckoned()
+        sets = it.sets()
+        for osds in sets:
+            for way in explain.ways_of(self.log.maps, osds):
+                assert it.is_down_with(way) == (len(way.starts + way.losses) < len(osds)), way
+        return sets
 
     def shown(self):
         return self.reckoned().shown()
@@ -104,6 +107,7 @@ class SmallestSets(unittest.TestCase):
         case = Case("erasure", 4, k=3).wrote(0, 1, 2, 3).then([None, None, None, 5], down=[1, 2, 3])
         self.assertEqual(case.sets(), [(1, 2), (1, 3), (2, 3)])
         self.assertEqual([it["lacks"] for it in case.shown()["blocking"]], [2])
+        self.assertEqual(reasons.any_of(case.sets()), (2, (1, 2, 3)))
 
     def test_shards_of_several_intervals(self):
         case = Case("erasure", 3, k=2).wrote(0, 1, 2).wrote(0, 4, 3).then([6, 7, 5], down=[0, 1, 2, 3, 4])
@@ -126,14 +130,73 @@ class SmallestSets(unittest.TestCase):
         case.inc(lost=[[0, 3]])
         self.assertEqual(case.sets(), [])
 
-    def test_more_sets_than_are_listed(self):
-        wanted = reasons.smallest(lambda osds: len(osds) >= 3, range(6))
-        self.assertEqual(len(wanted), 20)
-        first = [list(it) for it in wanted[:16]]
-        for sets, more, is_right in ((first, True, True), (first, False, False), (first[:15], True, False), (first[1:], True, False)):
-            self.assertEqual(explain.wrong_sets({"sets": sets, "more": more}, wanted) is None, is_right)
-        for sets, more in (([[1], [2]], True), ([[2], [1]], False), ([[1]], False), ([[1], [2], [3]], False)):
-            self.assertIsNotNone(explain.wrong_sets({"sets": sets, "more": more}, [(1,), (2,)]))
+    def test_any_so_many(self):
+        for sets, wanted in (
+            ([(0, 1), (0, 3), (1, 3)], (2, (0, 1, 3))), ([(0,), (4,)], (1, (0, 4))), ([(0, 1)], None), ([(0, 1), (2, 3)], None), ([], None), ([(0,), (1, 2)], None),
+        ):  # fmt: skip
+            self.assertEqual(reasons.any_of(sets), wanted)
+
+    def test_which_ways_are_told(self):
+        self.assertEqual(reasons.told_sets([(0, 1), (0, 3), (1, 3)]), [(0, 1)])
+        self.assertEqual(reasons.told_sets([(0,), (4,)]), [(0,), (4,)])
+        self.assertEqual(reasons.told_sets([(0,), (1, 2)]), [(0,), (1, 2)])
+        one = [reasons.Way((), (0,)), reasons.Way((2,), (1,)), reasons.Way((1,), (2,)), reasons.Way((), (1, 2))]
+        self.assertEqual(reasons.resorts([(0,), (1, 2)]), one)
+        self.assertEqual(len(reasons.resorts([(osd, osd + 1) for osd in range(16)])), 16)
+
+    def test_ways_that_are_listed_otherwise(self):
+        it = Case().wrote(0, 1).wrote(0, 2).then([5], down=[0, 1, 2]).reckoned()
+        sets = it.sets()
+        right = [explain.as_json(explain.way_shown(it, reasons.Way(osds, ()))) for osds in sets]
+        resort = [explain.as_json(explain.way_shown(it, way)) for way in reasons.resorts(sets)]
+
+        def wrong(**more):
+            ways = {"any": None, "more": False, "sets": right, **more}
+            return list(explain.wrong_ways({"ways": ways, "last_resort": resort}, it, sets))
+
+        self.assertEqual((sets, wrong()), ([(0,), (1, 2)], []))
+        for more in ({"more": True}, {"sets": right[:1]}, {"sets": right[::-1]}, {"any": {"least": 1, "osds": [0, 1]}}, {"sets": [right[0], {**right[1], "unreadable": True}]}):
+            self.assertTrue(wrong(**more), more)
+
+
+class Prices(unittest.TestCase):
+    def price(self, case, starts=(), losses=()):
+        way = reasons.Way(tuple(starts), tuple(losses))
+        it = case.reckoned()
+        return [(span["first"], span["last"], span["writes"]) for span in it.price(way)], it.is_unreadable(way)
+
+    def test_what_one_loss_leaves_may_be_on_others(self):
+        case = Case().wrote(0, 1).then([5], down=[0, 1])
+        self.assertEqual(self.price(case, losses=[0]), ([(2, 3, "away")], False))
+        self.assertEqual(self.price(case, losses=[0, 1]), ([(2, 3, "gone")], True))
+        self.assertEqual(self.price(case, [0]), ([(2, 3, "readable")], False))
+        self.assertEqual(self.price(case, [0], [1]), ([(2, 3, "readable")], False))
+
+    def test_too_few_shards_are_left_of_all(self):
+        case = Case("erasure", 4, k=3).wrote(3, 2, 0, 1).then([None, 2, None, None], down=[0, 1, 3])
+        self.assertEqual(self.price(case, [1], [0]), ([(2, 3, "away")], False))
+        self.assertEqual(self.price(case, losses=[0, 1]), ([(2, 3, "gone")], True))
+
+    def test_a_start_may_end_the_wait_for_writes_that_too_few_have(self):
+        case = Case("erasure", 3, k=2).wrote(0, 1, 2).then([5, 6, None], down=[0, 1, 2])
+        case.inc(gone=[0, 1])
+        self.assertEqual((case.sets(), self.price(case, [2])), ([(2,)], ([(2, 3, "gone")], True)))
+        self.assertEqual(case.shown()["blocking"][0]["interval"]["gone"], [0, 1])
+
+    def test_an_interval_that_did_not_block_may_be_given_up_too(self):
+        case = Case().wrote(0, 1).wrote(0).then([5], down=[0, 1])
+        case.inc(lost=[[1, 7]])
+        self.assertEqual([span["interval"]["first"] for span in case.shown()["blocking"]], [4])
+        self.assertEqual(self.price(case, losses=[0])[0], [(2, 3, "gone"), (4, 5, "gone")])
+
+    def test_losses_that_were_declared(self):
+        case = Case("erasure", 3, k=2).then([0, 1, 2], down=[0])
+        case.inc(lost=[[0, 3]])
+        case.inc(up=[0])
+        case.wrote(0, 1, 2).then([None, None, 5], down=[0, 1, 2])
+        case.inc(lost=[[1, 7]])
+        found = case.shown()["blocking"][-1]["interval"]
+        self.assertEqual((found["down"], found["lost"], found["lost_before"]), ([0, 2], [1], [0]))
 
 
 class Lacking(unittest.TestCase):
@@ -146,23 +209,30 @@ class Lacking(unittest.TestCase):
 
     def test_a_boot_or_a_loss_is_all_that_changes(self):
         case = Case().wrote(0, 1).then([5], down=[0, 1])
-        supposed = {way: reasons.Supposed(case.log.maps, way, [0, 5]) for way in reasons.WAYS}
-        self.assertEqual([supposed["starts"].status(osd, 1) for osd in (0, 1, 5)], ["Up", "Down", "Up"])
-        self.assertEqual([supposed["losses"].status(osd, 1) for osd in (0, 1, 5)], ["Lost", "Down", "Up"])
+        for ways, wanted in ((([0, 5], []), ["Up", "Down", "Up"]), (([], [0, 5]), ["Lost", "Down", "Up"]), (([1], [0]), ["Lost", "Up", "Up"])):
+            supposed = reasons.Supposed(case.log.maps, *ways)
+            self.assertEqual([supposed.status(osd, 1) for osd in (0, 1, 5)], wanted)
 
 
 class Shown(unittest.TestCase):
     def test_intervals_that_block(self):
         case = Case("erasure", 2, k=1).wrote(None, 0).wrote(1, 0).then([5, None], down=[0, 1])
         first, second = case.shown()["blocking"]
-        self.assertEqual(first, {"first": 2, "last": 3, "acting": (None, 0), "down": [0], "lacks": 1, "clean": None})
-        self.assertEqual((second["first"], second["last"], second["down"]), (4, 5, [0, 1]))
+        span = {"first": 2, "last": 3, "acting": (None, 0), "up": [], "down": [0], "lost": [], "gone": [], "lost_before": [], "writes": "away"}
+        self.assertEqual(first, {"interval": span, "lacks": 1, "clean": None})
+        self.assertEqual((second["interval"]["first"], second["interval"]["last"], second["interval"]["down"]), (4, 5, [0, 1]))
 
     def test_the_last_clean_epoch_of_an_interval(self):
         case = Case().wrote(0).then([5], down=[0])
         for clean in (1, 3, 2, 4):
             case.info(5, last_epoch_clean=clean)
         self.assertEqual([it["clean"] for it in case.shown()["blocking"]], [3])
+        self.assertEqual(case.shown()["clean"]["down"], [0])
+
+    def test_copies_that_may_be_followed(self):
+        case = Case("erasure", 3, k=2).wrote(0, 1, 2)
+        case.info(0, 0, les=2, history_les=2).info(1, 1, les=2, history_les=2, complete=False).info(2, 2)
+        self.assertEqual(case.shown()["copies"], {"lacks": 1, "members": [(0, 0)]})
 
     def test_infos_in_the_order_in_which_the_last_came(self):
         case = Case().wrote(0, 1, 2).then([0, 1, 2])
@@ -196,18 +266,21 @@ class Shown(unittest.TestCase):
         )  # fmt: skip
         for line in lines:
             log.answer(grammar.compact({"op": "inc", **line}))
-        devices = [{"osd": 1, "blocks": 0, "awaited": 2}, {"osd": 0, "blocks": 1, "awaited": 0}]
+        devices = [{"osd": 0, "blocks": 1, "frees": 1, "awaited": 0}, {"osd": 1, "blocks": 0, "frees": 0, "awaited": 2}]
         self.assertEqual(reasons.summary(log), {"devices": devices, "epoch": 3, "groups": 3, "verdicts": {"Down": 1, "Waiting": 2}})
 
 
 class Wording(unittest.TestCase):
     """Words, by objects made by hand."""
 
-    BLOCKING = [{"first": 3, "last": 4, "acting": [0, None], "down": [0], "lacks": 1, "clean": None}]
+    SPAN = {"first": 3, "last": 4, "acting": [0, None], "up": [], "down": [0], "lost": [], "gone": [], "lost_before": [], "writes": "away"}
+    THEN = {"says": "It has yet to hear from osd.0.", "verdict": "Waiting"}
+    START = {"intervals": [{**SPAN, "writes": "readable"}], "lost": [], "start": [3, 5], "then": THEN, "unreadable": False}
+    LOSS = {"intervals": [SPAN, {**SPAN, "writes": "gone"}], "lost": [0], "start": [3], "then": None, "unreadable": True}
     FOUND = {
-        "acting": [1, None], "acting_primary": 1, "blocking": BLOCKING, "epoch": 24, "first": 22, "gaps": [], "heard": [], "les": 3,
-        "losses": {"sets": [[0]], "more": False}, "pg": [1, 26], "starts": {"sets": [[0], [3, 5]], "more": True}, "unheard": [[2, 1]],
-        "up": [], "up_primary": None, "verdict": "Down",
+        "acting": [1, None], "acting_primary": 1, "blocking": [{"interval": SPAN, "lacks": 1, "clean": None}], "clean": None, "copies": {"lacks": 0, "members": []}, "epoch": 24, "first": 22, "gaps": [], "heard": [], "les": 3,
+        "last_resort": [LOSS], "pg": [1, 26], "unheard": [[2, 1]], "up": [], "up_primary": None, "verdict": "Down",
+        "ways": {"any": None, "more": True, "sets": [{**START, "start": [0]}, START]},
     }  # fmt: skip
 
     MISSING = [
@@ -223,29 +296,56 @@ class Wording(unittest.TestCase):
         info = {"from": [1, 2], "history_les": 9, "complete": True}
         for words, says in (
             (self.words(verdict="NoPrimary"), "No device of its acting set is up, so nobody leads it."),
+            (self.words(verdict="NoPrimary", fallen=[0, 4]), "No device of its acting set is up, so nobody leads it. Of those that served it last, osd.0 and osd.4 are down."),
             (self.words(), "It waits for osd.0, which is down: writes may have been taken in epochs 3 to 4, and too few of the devices that took them are up."),
-            (self.words(verdict="Waiting"), "It waits to hear from osd.2."),
-            (self.words(2, verdict="Waiting", unheard=[[2, 1], [2, 3]]), "It waits to hear from osd.2(1) and osd.2(3)."),
+            (self.words(verdict="Waiting"), "It has yet to hear from osd.2."),
+            (self.words(2, verdict="Waiting", unheard=[[2, 1], [2, 3]]), "It has yet to hear from osd.2(1) and osd.2(3)."),
             (self.words(verdict="Incomplete"), "No complete copy was heard of."),
+            (self.words(verdict="Incomplete", fallen=[0], clean=self.SPAN), "No complete copy was heard of. Of those that were complete in epochs 3 to 4, when it was last clean, osd.0 is down."),
+            (self.words(verdict="Incomplete", fallen=[2], clean={**self.SPAN, "down": []}), "No complete copy was heard of. Of those that served it last, osd.2 is down."),
             (self.words(2, verdict="Incomplete", heard=[info]), "No copy that was heard of is complete and recent enough: osd.1(2) knows that the group served in epoch 9, and no complete copy has served since."),
-            (self.words(verdict="Short"), "Its acting set has 1 member, and needs at least 2: it waits for 1 more device."),
-            (self.words(verdict="Short", acting=[], fallen=[0, 4]), "Its acting set has 0 members, and needs at least 2: it waits for 2 more devices. Of those that served it last, osd.0 and osd.4 are down."),
-            (self.words(3, verdict="Short", acting=[0, 1], lacks=1, fallen=[3]), "The members of its acting set hold too few shards to give objects back: it waits for 1 more shard. Of those that served it last, osd.3 is down."),
+            (self.words(verdict="Short"), "Its acting set has 1 member, and needs at least 2: it needs 1 more device."),
+            (self.words(verdict="Short", acting=[], fallen=[0, 4]), "Its acting set has 0 members, and needs at least 2: it needs 2 more devices. Of those that served it last, osd.0 and osd.4 are down."),
+            (self.words(3, verdict="Short", acting=[0, 1], lacks=1, fallen=[3]), "The members of its acting set hold too few shards to give objects back: it needs 1 more shard. Of those that served it last, osd.3 is down."),
             (self.words(best=(4, 0), verdict="NeedLog"), "The log of osd.4, which has the best copy, is not in order."),
             (self.words(best=(4, 0), verdict="NeedLog", gaps=[[5, 7], [9, 9]]), "The log of osd.4, which has the best copy, lacks the writes 5 to 7 and 9."),
             (self.words(verdict="NeedUpThru"), "The map has yet to record that osd.1, which leads it, is up in this interval: up_thru 22 or later."),
             (self.words(verdict="Serve"), "It serves, led by osd.1."),
+            (self.words(2, verdict="Serve", copies={"lacks": 1, "members": []}), "It serves, led by osd.1. Too few complete copies were heard to read all that was written: it needs 1 more."),
             (self.words(2, verdict="Serve", missing=self.MISSING), "It serves, led by osd.1. osd.3(0) lacks 1 object, osd.4(1) needs a backfill and osd.5(2) has diverged."),
         ):  # fmt: skip
             self.assertEqual(words.says(), says)
 
+    def test_a_group_that_has_to_hear_members_and_lacks_some(self):
+        self.assertEqual(self.words(verdict="Waiting").says_then(), "It has yet to hear from osd.2. Its acting set has 1 member, and needs at least 2: it needs 1 more device.")
+        self.assertEqual(self.words(verdict="Waiting", acting=[1, 2]).says_then(), "It has yet to hear from osd.2.")
+
+    def test_intervals(self):
+        told = {**self.SPAN, "acting": [0, 0, 3, 4], "down": [0], "lost_before": [0], "lost": [3], "gone": [4]}
+        lines = list(self.words(2).interval({"interval": told, "lacks": 2, "clean": 3}))
+        self.assertEqual(lines[1:], [
+            "It waits for the interval of epochs 3 to 4 on [0, 0, 3, 4], which needs 2 more shards:", "  osd.0(0) and osd.0(1) are down",
+            "  osd.0 was declared lost before it began, which doesn't count for it", "  osd.3 was declared lost, and no longer waited for",
+            "  osd.4 was destroyed, and can't be waited for", "  it may have gone read-write: a report says that the group was clean in epoch 3",
+        ])  # fmt: skip
+
     def test_ways(self):
-        wanted = ["", "What brings it back:", "  start osd.0", "  or start osd.3 and osd.5"]
-        wanted += ["  or, giving up what was written in epochs 3 to 4, declare osd.0 lost", "  (there may be others)"]
+        then = "    then Waiting: It has yet to hear from osd.0."
+        wanted = ["", "What ends Down:", "  start osd.0", then, "  or start osd.3 and osd.5", then, "  (there may be others)"]
         self.assertEqual(list(self.words().ways()), wanted)
-        self.assertEqual(list(self.words(verdict="NoPrimary").ways())[1], "It would be down, too. What ends that:")
-        none = {"sets": [], "more": False}
-        self.assertEqual(list(self.words(starts=none, losses=none).ways()), [])
+        self.assertEqual(list(self.words(verdict="NoPrimary").ways())[1], "It would be Down, too. What ends that:")
+        self.assertEqual(list(self.words(ways={"any": None, "sets": [], "more": False}).ways()), [])
+        shape = {"any": {"least": 2, "osds": [3, 5, 6]}, "more": False, "sets": [self.START]}
+        self.assertEqual(list(self.words(ways=shape).ways())[2:4], ["  any 2 of osd.3, osd.5 and osd.6 will do, such as", "  start osd.3 and osd.5"])
+
+    def test_the_last_resort(self):
+        self.assertEqual(list(self.words().last_resort())[3:], [
+            "  start osd.3 and declare osd.0 lost", "    what it is then isn't known: the log takes no more",
+            "    it goes on without what was written in epochs 3 to 4, at least: osd.0, which is down, may have it",
+            "    it goes on without what was written in epochs 3 to 4, at least: too few of the devices that took it are left",
+            "    no object can be read then: too few devices are left of all that ever served",
+        ])  # fmt: skip
+        self.assertEqual(list(self.words(last_resort=[]).last_resort()), [])
 
     def test_runs(self):
         self.assertEqual(wording.runs("write", [[5, 5]]), "write 5")
@@ -257,15 +357,15 @@ class Wording(unittest.TestCase):
         info = {"from": [1, 0], "stamp": 3, "les": 0, "last_update": [2, 9], "log_tail": [0, 0], "last_epoch_clean": 2}
         found = wording.shifted({**self.FOUND, "heard": [info], "gaps": [[5, 7]]}, 100)
         self.assertEqual([found[key] for key in ("epoch", "first", "les", "pg", "gaps")], [124, 122, 103, [1, 26], [[5, 7]]])
-        self.assertEqual((found["blocking"][0]["first"], found["blocking"][0]["clean"], found["blocking"][0]["down"]), (103, None, [0]))
+        self.assertEqual((found["blocking"][0]["interval"]["first"], found["blocking"][0]["clean"], found["blocking"][0]["interval"]["down"]), (103, None, [0]))
         later = {"stamp": 103, "last_update": [102, 9], "last_epoch_clean": 102}
         self.assertEqual(found["heard"], [{**info, **later}])
 
     def test_all_groups(self):
-        devices = [{"osd": 0, "blocks": 3, "awaited": 1}, {"osd": 4, "blocks": 0, "awaited": 1}]
+        devices = [{"osd": 0, "blocks": 3, "frees": 2, "awaited": 1}, {"osd": 4, "blocks": 0, "frees": 0, "awaited": 1}]
         found = {"groups": 16, "epoch": 24, "verdicts": {"Serve": 12, "Waiting": 1, "Down": 3}, "devices": devices}
         wanted = ["16 groups at epoch 24", "  Down 3", "  Waiting 1", "  Serve 12", ""]
-        wanted += ["osd.0 blocks 3 groups, and is waited for by 1 group", "osd.4 is waited for by 1 group"]
+        wanted += ["osd.0 blocks 3 groups, and alone frees 2, and has yet to be heard by 1 group", "osd.4 has yet to be heard by 1 group"]
         self.assertEqual(list(wording.summary_lines(found)), wanted)
 
 
@@ -278,12 +378,14 @@ def by_model(words, text, fault=lambda found, lines, words: None):
     offset = int(words[words.index("--epoch-offset") + 1]) if "--epoch-offset" in words else 0
     if "." in "".join(words[2:3]):
         pool, pg = words[2].split(".")
-        end, group = ends.End("", [], log, [], []), (int(pool), int(pg, 16))
-        reckoned = reasons.Reckoned(log, group)
-        sets = {way: {"sets": reckoned.sets(way)[:16], "more": len(reckoned.sets(way)) > 16} for way in reasons.WAYS}
-        found = wording.shifted(explain.as_json({**reckoned.shown(), **sets}), offset)
-        found["says"] = explain.words_of(end, group, found).says()
-        lines = list(explain.words_of(end, group, found).lines())
+        it = reasons.Reckoned(log, (int(pool), int(pg, 16)))
+        sets = it.sets()
+        told, shape = reasons.told_sets(sets), reasons.any_of(sets)
+        ways = {"any": shape and {"least": shape[0], "osds": shape[1]}, "more": False, "sets": [explain.way_shown(it, reasons.Way(osds, ())) for osds in told]}
+        found = explain.as_json({**it.shown(), "ways": ways, "last_resort": [explain.way_shown(it, way) for way in reasons.resorts(told)]})
+        found["says"] = explain.words_of(it, found).says()
+        found = explain.shifted(found, it) if offset else found
+        lines = list(explain.words_of(it, found).lines())
     else:
         found = wording.shifted(reasons.summary(log), offset)
         lines = list(wording.summary_lines(found))
@@ -310,8 +412,9 @@ def fails(found, lines, words):
 
 
 FAULTS = {
-    "starts is": of_a_group(lambda found, lines, words: found["starts"].update(sets=[[0, 1]])),
-    "losses is": of_a_group(lambda found, lines, words: found["losses"].update(more=True)),
+    "the ways are": of_a_group(lambda found, lines, words: found["ways"].update(more=True)),
+    "a way is": of_a_group(lambda found, lines, words: found["last_resort"][0].update(intervals=[])),
+    "leads to": of_a_group(lambda found, lines, words: found["ways"]["sets"][0]["then"].update(verdict="Serve")),
     "blocking is": of_a_group(lambda found, lines, words: found.update(blocking=[])),
     "gaps is": of_a_group(lambda found, lines, words: found.update(gaps=[(1, 1)])),
     "says is": of_a_group(lambda found, lines, words: found.update(says="It says.")),
@@ -343,17 +446,17 @@ class Runs(unittest.TestCase):
     def test_each_subset_is_tried(self):
         end = self.end()
         self.assertEqual((end.refused, ends.entries_of(end.lines)), (["line 3: NoOp"], [*end.lines[:2], *end.lines[3:]]))
-        self.assertEqual(list(explain.tries(end, 8)), [(way, osds) for way in reasons.WAYS for osds in ((), (0,), (1,), (0, 1))])
+        ways = [reasons.Way(*it) for it in (((), ()), ((1,), ()), ((), (1,)), ((0,), ()), ((0, 1), ()), ((0,), (1,)), ((), (0,)), ((1,), (0,)), ((), (0, 1)))]
+        self.assertEqual(list(explain.tries(end, 8)), ways)
         self.assertEqual(explain.tries(end, 1), {})
 
     def test_incrementals(self):
-        self.assertEqual(json.loads(explain.incremental(4, ("losses", (0, 1)))), {"op": "inc", "epoch": 4, "lost": [[0, 4], [1, 4]]})
-        self.assertEqual(json.loads(explain.incremental(4, ("starts", (2,)))), {"op": "inc", "epoch": 4, "up": [2]})
-        self.assertEqual(json.loads(explain.incremental(4, ("starts", ()))), {"op": "inc", "epoch": 4})
+        self.assertEqual(reasons.Way((2,), (0, 1)).incremental(4), {"op": "inc", "epoch": 4, "up": [2], "lost": [[0, 4], [1, 4]]})
+        self.assertEqual(reasons.Way((), ()).incremental(4), {"op": "inc", "epoch": 4})
 
     def test_a_sound_program(self):
-        self.assertEqual(self.tried(), ([], "1 groups, 8 subsets, 0 wrong"))
-        self.assertEqual(self.tried(fails, run_alone=True), ([], "1 groups, 8 subsets, 0 wrong"))
+        self.assertEqual(self.tried(), ([], "1 groups, 9 subsets, 0 wrong"))
+        self.assertEqual(self.tried(fails, run_alone=True), ([], "1 groups, 9 subsets, 0 wrong"))
 
     def test_faulty_programs(self):
         for told, fault in FAULTS.items():
@@ -362,9 +465,9 @@ class Runs(unittest.TestCase):
             self.assertTrue(any(told in it for it in wrong), (told, wrong))
 
     def test_a_program_that_answers_another_set(self):
-        with mock.patch.object(reasons.Reckoned, "sets", lambda self, way: [(0,)]):
-            wrong, _ = self.tried()
-        self.assertEqual([it.split(" is ")[0] for it in wrong], ["1.0: starts", "1.0: losses"])
+        with mock.patch.object(reasons.Reckoned, "sets", lambda self: [(0,)]):
+            wrong, _ = self.tried(run_alone=True)
+        self.assertEqual(wrong, ["1.0: the smallest sets are [(0,), (1,)] by run and [(0,)] by the model"])
 
     def test_the_command(self):
         with tempfile.TemporaryDirectory() as room:
@@ -393,16 +496,16 @@ class Logs(unittest.TestCase):
         self.assertEqual(first, second)
 
     def test_corners_have_as_many_smallest_sets_as_are_listed_and_more(self):
-        found = [len(reasons.Reckoned(end.log, GROUP).sets("starts")) for end in ends.corners()]
-        self.assertEqual(found, [explain.MOST_SETS, 20])
-        self.assertEqual([end.log.view(GROUP)["verdict"] for end in ends.corners()], ["Down", "Down"])
+        found = [len(reasons.Reckoned(end.log, GROUP).sets()) for end in ends.corners()]
+        self.assertEqual(found, [explain.MOST_SETS, 20, 24])
+        self.assertEqual([end.log.view(GROUP)["verdict"] for end in ends.corners()], ["Down", "Down", "Down"])
 
     def test_ends_have_groups_that_are_blocked_in_many_ways(self):
         found = set()
         for number in range(25):
             for end in ends.ends_of("a", number, 8):
                 for group in {group for groups in explain.tries(end, 8).values() for group in groups}:
-                    found.add(tuple(len(it) for it in reasons.Reckoned(end.log, group).sets("starts")))
+                    found.add(tuple(len(it) for it in reasons.Reckoned(end.log, group).sets()))
         self.assertLessEqual({(1,), (2,), (3,), (1, 1), (1, 2)}, found)
 
 

@@ -6,7 +6,7 @@ _pgpeer() {
     esac
     case ${COMP_WORDS[1]} in
         run) choices="--shards --workers --format --help" ;;
-        explain) choices="--json --epoch-offset --format --help" ;;
+        explain) choices="--losses --json --epoch-offset --format --help" ;;
         compact) choices="--format --help" ;;
         help) choices="run explain compact" ;;
         *) choices="run explain compact help --help --version" ;;

@@ -8,6 +8,7 @@ complete -c pgpeer -n __fish_use_subcommand -s V -l version -d 'print the versio
 complete -c pgpeer -s h -l help -d 'print help'
 complete -c pgpeer -n '__fish_seen_subcommand_from run' -x -l shards -d 'how many shards share the groups, 1 to 64'
 complete -c pgpeer -n '__fish_seen_subcommand_from run' -x -l workers -d 'how many threads read the log, 0 to 64'
+complete -c pgpeer -n '__fish_seen_subcommand_from explain' -l losses -d 'name devices to declare lost, too'
 complete -c pgpeer -n '__fish_seen_subcommand_from explain' -l json -d 'write one line of JSON in place of words'
 complete -c pgpeer -n '__fish_seen_subcommand_from explain' -x -l epoch-offset -d 'add a number to each epoch but 0'
 complete -c pgpeer -n '__fish_seen_subcommand_from run explain compact' -x -l format -d 'up to which version lines are read, 2 or 3'

@@ -4,13 +4,13 @@ use Rattle.pgp_ids.specs.AskRefusal.{ask_refusal_number}
 use Rattle.pgp_ids.specs.declared.ask_refusal.AskRefusal.TheVariants.{UnknownGroup}
 use Rattle.pgp_ids.specs.declared.view.View.{View}
 use Rattle.pgp_core.specs.Session.{LogAndAnswer, view_in}
-use Rattle.pgp_c.specs.Ask.{Answers, Asks, group, view_or_refusal}
-use Rattle.pgp_c.specs.Exports.{put_in, put_status}
+use Rattle.pgp_c.specs.Ask.{AnswersAsk, Asks, group, view_or_refusal}
+use Rattle.pgp_c.specs.Exports.{put_into, put_status}
 use Rattle.pgp_c.specs.Lists.{Lists}
-use Rattle.pgp_c.specs.Member.{IsMember, member}
+use Rattle.pgp_c.specs.Member.{AreOfMember, member}
 use Rattle.pgp_c.specs.Objects.{Objects, PutsObjects, objects_of}
 use Rattle.pgp_c.specs.Status.{status_number}
-use Rattle.pgp_c.specs.View.{view_of}
+use Rattle.pgp_c.specs.View.{pgp_view}
 use Rattle.pgp_c.specs.declared.objects.PgpObject.{PgpObject}
 use Rattle.pgp_c.specs.declared.status.Status.TheVariants.{Done}
 use Rattle.pgp_c.specs.declared.view.PgpView.{PgpView}
@@ -26,7 +26,7 @@ is-refusal None status e = (refl, cc)
 is-refusal (Some view) status e = cc
 
 pub asks_view : (was now : Option LogAndAnswer) (pool pg : ℕ) (view : View) (old new : PgpView) (status : ℕ) → now ≡ was
-    → Answers was pool pg (Ok view) → new ≡ view_of view → status ≡ status_number Done → Asks was now pool pg old new status
+    → AnswersAsk was pool pg (Ok view) → new ≡ pgp_view view → status ≡ status_number Done → Asks was now pool pg old new status
 asks_view None now pool pg view old new status same h puts done = cc
 asks_view (Some was) now pool pg view old new status same h puts done = (
   same,
@@ -40,7 +40,7 @@ asks_view (Some was) now pool pg view old new status same h puts done = (
 )
 
 pub asks_none : (was now : Option LogAndAnswer) (pool pg status : ℕ) (old : PgpView) → now ≡ was
-    → Answers was pool pg (Err status) → Asks was now pool pg old old status
+    → AnswersAsk was pool pg (Err status) → Asks was now pool pg old old status
 asks_none None now pool pg status old same h = (same, refl, cc)
 asks_none (Some was) now pool pg status old same h = (
   same,
@@ -54,7 +54,7 @@ asks_none (Some was) now pool pg status old same h = (
 )
 
 pub lists_view : {C : Type 0} (was now : Option LogAndAnswer) (pool pg : ℕ) (view : View) (list : View → List C) (old new : List C) (count status : ℕ) → now ≡ was
-    → Answers was pool pg (Ok view) → new ≡ put_in (list view) old → count ≡ length (list view) → status ≡ status_number (put_status (list view) old)
+    → AnswersAsk was pool pg (Ok view) → new ≡ put_into (list view) old → count ≡ length (list view) → status ≡ status_number (put_status (list view) old)
     → Lists was now pool pg list old new count status
 lists_view None now pool pg view list old new count status same h puts many done = cc
 lists_view (Some was) now pool pg view list old new count status same h puts many done = (
@@ -69,7 +69,7 @@ lists_view (Some was) now pool pg view list old new count status same h puts man
 )
 
 pub lists_none : {C : Type 0} (was now : Option LogAndAnswer) (pool pg status : ℕ) (list : View → List C) (old : List C) → now ≡ was
-    → Answers was pool pg (Err status) → Lists was now pool pg list old old 0 status
+    → AnswersAsk was pool pg (Err status) → Lists was now pool pg list old old 0 status
 lists_none None now pool pg status list old same h = (same, record { room = refl; none = refl; status_is = cc })
 lists_none (Some was) now pool pg status list old same h = (
   same,
@@ -83,7 +83,7 @@ lists_none (Some was) now pool pg status list old same h = (
 )
 
 pub objects_view : (was now : Option LogAndAnswer) (pool pg osd slot : ℕ) (view : View) (old new : List PgpObject) (count status : ℕ) → now ≡ was
-    → Answers was pool pg (Ok view) → IsMember osd slot → PutsObjects (objects_of view.missing (member osd slot)) old new count status
+    → AnswersAsk was pool pg (Ok view) → AreOfMember osd slot → PutsObjects (objects_of view.missing (member osd slot)) old new count status
     → Objects was now pool pg osd slot old new count status
 objects_view None now pool pg osd slot view old new count status same h of_member puts = cc
 objects_view (Some was) now pool pg osd slot view old new count status same h of_member puts = (
@@ -98,7 +98,7 @@ objects_view (Some was) now pool pg osd slot view old new count status same h of
 )
 
 pub objects_none : (was now : Option LogAndAnswer) (pool pg osd slot status : ℕ) (old : List PgpObject) → now ≡ was
-    → Answers was pool pg (Err status) → IsMember osd slot → Objects was now pool pg osd slot old old 0 status
+    → AnswersAsk was pool pg (Err status) → AreOfMember osd slot → Objects was now pool pg osd slot old old 0 status
 objects_none None now pool pg osd slot status old same h of_member = (same, record { room = refl; none = refl; status_is = cc })
 objects_none (Some was) now pool pg osd slot status old same h of_member = (
   same,

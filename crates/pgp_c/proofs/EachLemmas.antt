@@ -3,7 +3,7 @@ use Rattle.std.proofs.Common.{◌≡◌, ℕ, zero, suc, ◌<◌, ◌≤◌, Lis
 use Rattle.std.proofs.lemmas.Bool.Decides.{nat_tests}
 use Rattle.std.proofs.lemmas.List.{length-map}
 use Rattle.std.proofs.Math.Seq.{take-length}
-use Rattle.pgp_c.specs.Exports.{put_in}
+use Rattle.pgp_c.specs.Exports.{put_into}
 
 -- one item more
 pub put-next : {X Y : Type 0} (f : X → Y) (xs : List X) (ys : List Y) (i : ℕ) (x : X) → i < length xs → length xs ≤ length ys
@@ -15,7 +15,7 @@ put-next f (a ∷ xs) (b ∷ ys) (suc i) x below fits = ap (λ l. f a ∷ l) (pu
 
 -- all items
 pub put-all : {X Y : Type 0} (f : X → Y) (xs : List X) (ys : List Y) (i : ℕ) → length xs ≤ i → i ≤ length xs → length xs ≤ length ys
-    → map f (take i xs) ++ drop i ys ≡ put_in (map f xs) ys
+    → map f (take i xs) ++ drop i ys ≡ put_into (map f xs) ys
 put-all f xs ys i full within fits =
     let e : i ≡ length xs = omega (arith, full, within) in
     let long : nat_le (length xs) (length ys) ≡ true = grind (arith, nat_tests) in

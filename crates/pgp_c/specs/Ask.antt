@@ -8,12 +8,12 @@ use Rattle.pgp_ids.specs.declared.ask_refusal.AskRefusal.TheVariants.{UnknownGro
 use Rattle.pgp_core.specs.Session.{LogAndAnswer, view_in}
 use Rattle.pgp_c.specs.Locate.{IsPool}
 use Rattle.pgp_c.specs.Status.{status_number}
-use Rattle.pgp_c.specs.View.{view_of}
+use Rattle.pgp_c.specs.View.{pgp_view}
 use Rattle.pgp_c.specs.declared.status.Status.TheVariants.{Done, NoMemory, NotOpen, BadArgument}
 use Rattle.pgp_c.specs.declared.view.PgpView.{PgpView}
 
 -- the numbers are those of a group
-pub record IsGroup (pool pg : ℕ) : Type 0 where
+pub record AreOfGroup (pool pg : ℕ) : Type 0 where
   pub of_pool : IsPool pool
   pub in_range : pg ≤ 1023
 
@@ -23,19 +23,19 @@ group pool pg = record { pool = pool; pg = pg }
 -- what the log says of the group was put where C reads it, or the number of the refusal is the status
 abbrev pub PutsView : Option View → PgpView → PgpView → ℕ → Type 0
 PutsView None old new status = (new ≡ old) × (status ≡ ask_refusal_number UnknownGroup)
-PutsView (Some view) old new status = (new ≡ view_of view) × (status ≡ status_number Done)
+PutsView (Some view) old new status = (new ≡ pgp_view view) × (status ≡ status_number Done)
 
 -- there was no memory for what the log says of the group, where its map has the group
-pub record FindsNone (view : Option View) (old new : PgpView) (status : ℕ) : Type 0 where
+pub record LacksViewMemory (view : Option View) (old new : PgpView) (status : ℕ) : Type 0 where
   pub there : is_some view ≡ true
   pub same : new ≡ old
   pub status_is : status ≡ status_number NoMemory
 
 -- The question was answered by the log.
 pub record AsksIn (log : List Entry) (pool pg : ℕ) (old new : PgpView) (status : ℕ) : Type 0 where
-  pub bad : (IsGroup pool pg → ⊥) → (new ≡ old) × (status ≡ status_number BadArgument)
-  pub good : IsGroup pool pg
-      → PutsView (view_in log (group pool pg)) old new status ⊎ FindsNone (view_in log (group pool pg)) old new status
+  pub bad : (AreOfGroup pool pg → ⊥) → (new ≡ old) × (status ≡ status_number BadArgument)
+  pub good : AreOfGroup pool pg
+      → PutsView (view_in log (group pool pg)) old new status ⊎ LacksViewMemory (view_in log (group pool pg)) old new status
 
 -- The question was answered by a session, where there is one.
 abbrev pub Asks : Option LogAndAnswer → Option LogAndAnswer → ℕ → ℕ → PgpView → PgpView → ℕ → Type 0
@@ -49,11 +49,11 @@ view_or_refusal (Some view) = Ok view
 
 -- What the log says of the group: the view, or the status that tells why it says nothing.
 pub record AnswersIn (log : List Entry) (pool pg : ℕ) (answer : Result View ℕ) : Type 0 where
-  pub bad : (IsGroup pool pg → ⊥) → answer ≡ Err (status_number BadArgument)
-  pub good : IsGroup pool pg → (answer ≡ view_or_refusal (view_in log (group pool pg)))
+  pub bad : (AreOfGroup pool pg → ⊥) → answer ≡ Err (status_number BadArgument)
+  pub good : AreOfGroup pool pg → (answer ≡ view_or_refusal (view_in log (group pool pg)))
       ⊎ ((is_some (view_in log (group pool pg)) ≡ true) × (answer ≡ Err (status_number NoMemory)))
 
 -- What a session says of the group, where there is one.
-abbrev pub Answers : Option LogAndAnswer → ℕ → ℕ → Result View ℕ → Type 0
-Answers None pool pg answer = answer ≡ Err (status_number NotOpen)
-Answers (Some was) pool pg answer = AnswersIn was.log pool pg answer
+abbrev pub AnswersAsk : Option LogAndAnswer → ℕ → ℕ → Result View ℕ → Type 0
+AnswersAsk None pool pg answer = answer ≡ Err (status_number NotOpen)
+AnswersAsk (Some was) pool pg answer = AnswersIn was.log pool pg answer

@@ -6,13 +6,13 @@ use Rattle.pgp_c.specs.Status.{status_number}
 use Rattle.pgp_c.specs.declared.status.Status.TheVariants.{Done, NoMemory, NotOpen}
 
 -- the log is compacted, and has this many entries fewer than before
-pub record IsCompacted (was now : LogAndAnswer) (left_out status : ℕ) : Type 0 where
+pub record IsShortened (was now : LogAndAnswer) (left_out status : ℕ) : Type 0 where
   pub log : now.log ≡ compacted was.log
   pub less : left_out ≡ length was.log - length now.log
   pub status_is : status ≡ status_number Done
 
 -- there was no memory for the compacted log
-pub record IsKept (was now : LogAndAnswer) (left_out status : ℕ) : Type 0 where
+pub record StaysWhole (was now : LogAndAnswer) (left_out status : ℕ) : Type 0 where
   pub log : now.log ≡ was.log
   pub none : left_out ≡ 0
   pub status_is : status ≡ status_number NoMemory
@@ -21,7 +21,7 @@ pub record IsKept (was now : LogAndAnswer) (left_out status : ℕ) : Type 0 wher
 pub record CompactsIn (was now : LogAndAnswer) (left_out status : ℕ) : Type 0 where
   pub answer : now.answer ≡ was.answer
   pub format : now.format ≡ was.format
-  pub log : IsCompacted was now left_out status ⊎ IsKept was now left_out status
+  pub log : IsShortened was now left_out status ⊎ StaysWhole was now left_out status
 
 -- The log of a session was compacted, where there is one.
 abbrev pub Compacts : Option LogAndAnswer → Option LogAndAnswer → ℕ → ℕ → Type 0

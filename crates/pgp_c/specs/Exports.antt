@@ -1,6 +1,7 @@
 -- What the exported calls do. This project's own choice.
 use Rattle.std.specs.Prelude.{◌≡◌, ℕ, List, [], ◌++◌, Option, Some, None, nat_eq, nat_le, length, drop, if◌then◌else◌}
-use Rattle.pgp_text.specs.Commands.{Format, Two, Three}
+use Rattle.pgp_lines.specs.declared.command.format.Format.{Format}
+use Rattle.pgp_lines.specs.declared.command.format.Format.TheVariants.{Two, Three}
 use Rattle.pgp_core.specs.Script.{MayMeet, answer, log_past}
 use Rattle.pgp_core.specs.Session.{LogAndAnswer}
 use Rattle.pgp_core.specs.declared.want.Want.{Want}
@@ -9,8 +10,8 @@ use Rattle.pgp_c.specs.declared.status.Status.{Status}
 use Rattle.pgp_c.specs.declared.status.Status.TheVariants.{Done, RoomTooSmall, NoMemory, NotOpen, AlreadyOpen, BadArgument}
 
 -- room into which the text is put, where it fits; else it stays
-abbrev pub put_in : {A : Type 0} → List A → List A → List A
-put_in text room = if nat_le (length text) (length room) then text ++ drop (length text) room else room
+abbrev pub put_into : {A : Type 0} → List A → List A → List A
+put_into text room = if nat_le (length text) (length room) then text ++ drop (length text) room else room
 
 -- whether a text was put into room
 abbrev pub put_status : {A : Type 0} → List A → List A → Status
@@ -22,13 +23,13 @@ line_status None text room = put_status text room
 line_status (Some want) text room = NoMemory
 
 -- A line was told to a session, which goes from `was` to `now`. `met` is what there was no memory for, if anything.
-pub record IsTold (was now : LogAndAnswer) (line : List ℕ) (old new : List ℕ) (len : ℕ) (status : ℕ) : Type 0 where
+pub record IsLineTold (was now : LogAndAnswer) (line : List ℕ) (old new : List ℕ) (len : ℕ) (status : ℕ) : Type 0 where
   pub met : Option Want
   pub meets : MayMeet was.format met line
   pub log : now.log ≡ log_past was.format was.log met line
   pub answer_is : now.answer ≡ answer was.format was.log met line
   pub format : now.format ≡ was.format
-  pub room : new ≡ put_in now.answer old
+  pub room : new ≡ put_into now.answer old
   pub len_is : len ≡ length now.answer
   pub status_is : status ≡ status_number (line_status met now.answer old)
 
@@ -37,7 +38,7 @@ abbrev pub Tells : Option LogAndAnswer → Option LogAndAnswer → List ℕ → 
 Tells None None line old new len status = (new ≡ old) × (len ≡ 0) × (status ≡ status_number NotOpen)
 Tells None (Some now) line old new len status = ⊥
 Tells (Some was) None line old new len status = ⊥
-Tells (Some was) (Some now) line old new len status = IsTold was now line old new len status
+Tells (Some was) (Some now) line old new len status = IsLineTold was now line old new len status
 
 -- the version of this number, where a session may read lines up to it
 abbrev pub session_format : ℕ → Option Format
@@ -60,4 +61,4 @@ Closes (Some was) now status = (now ≡ None) × (status ≡ status_number Done)
 abbrev pub Repeats : Option LogAndAnswer → Option LogAndAnswer → List ℕ → List ℕ → ℕ → ℕ → Type 0
 Repeats None now old new len status = (now ≡ None) × (new ≡ old) × (len ≡ 0) × (status ≡ status_number NotOpen)
 Repeats (Some was) now old new len status =
-    (now ≡ Some was) × (new ≡ put_in was.answer old) × (len ≡ length was.answer) × (status ≡ status_number (put_status was.answer old))
+    (now ≡ Some was) × (new ≡ put_into was.answer old) × (len ≡ length was.answer) × (status ≡ status_number (put_status was.answer old))

@@ -10,20 +10,20 @@ use Rattle.pgp_text.specs.declared.reply.Reply.{Reply}
 use Rattle.pgp_text.specs.declared.reply.Reply.TheVariants.{Accepted, Asked, Located, Traced, Refused}
 use Rattle.pgp_text.specs.declared.reply.line_refusal.LineRefusal.TheVariants as why
 use Rattle.pgp_core.specs.Session.{LogAndAnswer, log_in, reply_in}
-use Rattle.pgp_c.specs.Ask.{IsGroup, group}
-use Rattle.pgp_c.specs.Member.{IsMember, member}
+use Rattle.pgp_c.specs.Ask.{AreOfGroup, group}
+use Rattle.pgp_c.specs.Member.{AreOfMember, member}
 use Rattle.pgp_c.specs.Status.{status_number}
 use Rattle.pgp_c.specs.declared.info.PgpInfo.{PgpInfo}
 use Rattle.pgp_c.specs.declared.status.Status.TheVariants.{Done, NoMemory, NotOpen, BadArgument}
 
 -- the numbers are those of an info
 pub record IsInfo (info : PgpInfo) : Type 0 where
-  pub of_group : IsGroup info.pool info.pg
-  pub of_member : IsMember info.osd info.slot
+  pub of_group : AreOfGroup info.pool info.pg
+  pub of_member : AreOfMember info.osd info.slot
   pub complete : info.complete ≤ 1
 
-abbrev pub info_of : PgpInfo → Info
-info_of info = record {
+abbrev pub told_info : PgpInfo → Info
+told_info info = record {
   pg = group info.pool info.pg;
   member = member info.osd info.slot;
   stamp = info.stamp;
@@ -36,7 +36,7 @@ info_of info = record {
 }
 
 abbrev pub entry_of : PgpInfo → Entry
-entry_of info = entry.Info (info_of info)
+entry_of info = entry.Info (told_info info)
 
 -- the number of the refusal, where the reply says that the log doesn't take an entry
 abbrev pub reply_status : Reply → ℕ
@@ -50,7 +50,7 @@ reply_status (Refused (why.Locate refusal)) = status_number Done
 reply_status (Refused (why.Line fault)) = status_number Done
 
 -- the entry was told, and there was memory for it
-pub record IsTaken (was now : LogAndAnswer) (new : Entry) (status : ℕ) : Type 0 where
+pub record IsEntryTold (was now : LogAndAnswer) (new : Entry) (status : ℕ) : Type 0 where
   pub log : now.log ≡ log_in was.log (Submit new)
   pub status_is : status ≡ reply_status (reply_in was.log (Submit new))
 
@@ -65,7 +65,7 @@ pub record SubmitsIn (was now : LogAndAnswer) (info : PgpInfo) (status : ℕ) : 
   pub answer : now.answer ≡ was.answer
   pub format : now.format ≡ was.format
   pub bad : (IsInfo info → ⊥) → (now.log ≡ was.log) × (status ≡ status_number BadArgument)
-  pub good : IsInfo info → IsTaken was now (entry_of info) status ⊎ IsLacking was now (entry_of info) status
+  pub good : IsInfo info → IsEntryTold was now (entry_of info) status ⊎ IsLacking was now (entry_of info) status
 
 -- An info was told to a session, where there is one.
 abbrev pub Submits : Option LogAndAnswer → Option LogAndAnswer → PgpInfo → ℕ → Type 0

@@ -10,8 +10,8 @@ use Rattle.pgp_ids.specs.declared.view.View.{View}
 use Rattle.pgp_ids.specs.AskRefusal.{ask_refusal_number}
 use Rattle.pgp_ids.specs.declared.ask_refusal.AskRefusal.TheVariants.{UnknownGroup}
 use Rattle.pgp_core.specs.Session.{LogAndAnswer, view_in}
-use Rattle.pgp_c.specs.Ask.{IsGroup, group}
-use Rattle.pgp_c.specs.Exports.{put_in, put_status}
+use Rattle.pgp_c.specs.Ask.{AreOfGroup, group}
+use Rattle.pgp_c.specs.Exports.{put_into, put_status}
 use Rattle.pgp_c.specs.Place.{device_number, sixteen}
 use Rattle.pgp_c.specs.Status.{status_number}
 use Rattle.pgp_c.specs.declared.lists.PgpInterval.{PgpInterval}
@@ -19,8 +19,8 @@ use Rattle.pgp_c.specs.declared.lists.PgpMember.{PgpMember}
 use Rattle.pgp_c.specs.declared.lists.PgpPeer.{PgpPeer}
 use Rattle.pgp_c.specs.declared.status.Status.TheVariants.{NoMemory, NotOpen, BadArgument}
 
-abbrev pub device_of : ℕ → ℕ
-device_of device = device
+abbrev pub pgp_device : ℕ → ℕ
+pgp_device device = device
 
 abbrev pub member_of : Member → PgpMember
 member_of member = record { osd = member.osd; slot = member.slot }
@@ -41,10 +41,10 @@ interval_of past = record {
 }
 
 -- how many objects a member lacks, where that is its state
-abbrev pub lacks : PeerState → ℕ
-lacks (Missing objects) = length objects
-lacks Backfill = 0
-lacks Diverged = 0
+abbrev pub lacking_count : PeerState → ℕ
+lacking_count (Missing objects) = length objects
+lacking_count Backfill = 0
+lacking_count Diverged = 0
 
 -- the number by which C knows a state
 abbrev pub peer_state_number : PeerState → ℕ
@@ -54,7 +54,7 @@ peer_state_number Diverged = 2
 
 abbrev pub peer_of : PeerMissing → PgpPeer
 peer_of peer = record {
-  objects = lacks peer.state;
+  objects = lacking_count peer.state;
   osd = peer.member.osd;
   slot = peer.member.slot;
   state = peer_state_number peer.state;
@@ -63,7 +63,7 @@ peer_of peer = record {
 -- the list was put where C reads it, where it fits, or the number of the refusal is the status
 abbrev pub PutsList : {C : Type 0} → Option (List C) → List C → List C → ℕ → ℕ → Type 0
 PutsList None old new count status = (new ≡ old) × (count ≡ 0) × (status ≡ ask_refusal_number UnknownGroup)
-PutsList (Some list) old new count status = (new ≡ put_in list old) × (count ≡ length list) × (status ≡ status_number (put_status list old))
+PutsList (Some list) old new count status = (new ≡ put_into list old) × (count ≡ length list) × (status ≡ status_number (put_status list old))
 
 -- nothing was put, for this reason
 pub record PutsNone {C : Type 0} (old new : List C) (count status reason : ℕ) : Type 0 where
@@ -78,8 +78,8 @@ pub record FindsNoList {C : Type 0} (view : Option View) (old new : List C) (cou
 
 -- A list of what the log says of a group was put where C reads it.
 pub record ListsIn {C : Type 0} (log : List Entry) (pool pg : ℕ) (list : View → List C) (old new : List C) (count status : ℕ) : Type 0 where
-  pub bad : (IsGroup pool pg → ⊥) → PutsNone old new count status (status_number BadArgument)
-  pub good : IsGroup pool pg
+  pub bad : (AreOfGroup pool pg → ⊥) → PutsNone old new count status (status_number BadArgument)
+  pub good : AreOfGroup pool pg
       → PutsList (option_map list (view_in log (group pool pg))) old new count status
       ⊎ FindsNoList (view_in log (group pool pg)) old new count status
 

@@ -8,7 +8,7 @@ use Rattle.pgp_lines.specs.declared.command.Command.TheVariants.{Locate}
 use Rattle.pgp_text.specs.declared.reply.Reply.{Reply}
 use Rattle.pgp_text.specs.declared.reply.Reply.TheVariants.{Accepted, Asked, Located, Traced, Refused}
 use Rattle.pgp_core.specs.Session.{LogAndAnswer, reply_in}
-use Rattle.pgp_c.specs.Place.{place_of}
+use Rattle.pgp_c.specs.Place.{pgp_place}
 use Rattle.pgp_c.specs.Status.{status_number}
 use Rattle.pgp_c.specs.declared.place.PgpPlace.{PgpPlace}
 use Rattle.pgp_c.specs.declared.status.Status.TheVariants.{Done, NoMemory, NotOpen, BadArgument}
@@ -21,14 +21,14 @@ IsName name = (1 ≤ length name) × (length name ≤ 255) × IsUtf8 name
 
 -- the place of the reply was put where C reads it, or the number of its refusal is the status
 abbrev pub PutsPlace : Reply → PgpPlace → PgpPlace → ℕ → Type 0
-PutsPlace (Located pg members epoch) old new status = (new ≡ place_of pg members epoch) × (status ≡ status_number Done)
+PutsPlace (Located pg members epoch) old new status = (new ≡ pgp_place pg members epoch) × (status ≡ status_number Done)
 PutsPlace (Refused why) old new status = (new ≡ old) × (status ≡ locate_refusal_number UnknownPool)
 PutsPlace (Accepted op count epoch) old new status = (new ≡ old) × (status ≡ locate_refusal_number UnknownPool)
 PutsPlace (Asked pg view) old new status = (new ≡ old) × (status ≡ locate_refusal_number UnknownPool)
 PutsPlace (Traced first past) old new status = (new ≡ old) × (status ≡ locate_refusal_number UnknownPool)
 
 -- there was no memory for the name, which has more than 24 bytes
-pub record FindsNone (name : List ℕ) (old new : PgpPlace) (status : ℕ) : Type 0 where
+pub record LacksNameMemory (name : List ℕ) (old new : PgpPlace) (status : ℕ) : Type 0 where
   pub long : 24 < length name
   pub same : new ≡ old
   pub status_is : status ≡ status_number NoMemory
@@ -36,7 +36,7 @@ pub record FindsNone (name : List ℕ) (old new : PgpPlace) (status : ℕ) : Typ
 -- The question was answered by the log.
 pub record LocatesIn (log : List Entry) (pool : ℕ) (name : List ℕ) (old new : PgpPlace) (status : ℕ) : Type 0 where
   pub bad : (IsPool pool → IsName name → ⊥) → (new ≡ old) × (status ≡ status_number BadArgument)
-  pub good : IsPool pool → IsName name → PutsPlace (reply_in log (Locate pool name)) old new status ⊎ FindsNone name old new status
+  pub good : IsPool pool → IsName name → PutsPlace (reply_in log (Locate pool name)) old new status ⊎ LacksNameMemory name old new status
 
 -- The question was answered by a session, where there is one.
 abbrev pub Locates : Option LogAndAnswer → Option LogAndAnswer → ℕ → List ℕ → PgpPlace → PgpPlace → ℕ → Type 0

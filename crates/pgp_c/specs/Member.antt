@@ -3,7 +3,7 @@ use Rattle.std.specs.Prelude.{ℕ, ◌≤◌}
 use Rattle.pgp_ids.specs.declared.member.Member.{Member}
 
 -- the numbers are those of a member
-pub record IsMember (osd slot : ℕ) : Type 0 where
+pub record AreOfMember (osd slot : ℕ) : Type 0 where
   pub osd_in_range : osd ≤ 4095
   pub slot_in_range : slot ≤ 15
 

@@ -11,10 +11,10 @@ use Rattle.pgp_ids.specs.declared.view.View.{View}
 use Rattle.pgp_ids.specs.AskRefusal.{ask_refusal_number}
 use Rattle.pgp_ids.specs.declared.ask_refusal.AskRefusal.TheVariants.{UnknownGroup}
 use Rattle.pgp_core.specs.Session.{LogAndAnswer, view_in}
-use Rattle.pgp_c.specs.Ask.{IsGroup, group}
-use Rattle.pgp_c.specs.Exports.{put_in, put_status}
+use Rattle.pgp_c.specs.Ask.{AreOfGroup, group}
+use Rattle.pgp_c.specs.Exports.{put_into, put_status}
 use Rattle.pgp_c.specs.Lists.{FindsNoList, PutsNone}
-use Rattle.pgp_c.specs.Member.{IsMember, member}
+use Rattle.pgp_c.specs.Member.{AreOfMember, member}
 use Rattle.pgp_c.specs.Status.{status_number}
 use Rattle.pgp_c.specs.declared.objects.PgpObject.{PgpObject}
 use Rattle.pgp_c.specs.declared.status.Status.TheVariants.{NotOpen, BadArgument, NoList}
@@ -32,10 +32,10 @@ objects_of (peer ∷ peers) who = if is_same_member peer.member who then lacked 
 
 -- the bytes of a name, and zeros behind them
 abbrev pub name_room : List ℕ → List ℕ
-name_room name = put_in name (replicate 255 0)
+name_room name = put_into name (replicate 255 0)
 
-abbrev pub object_of : MissingObject → PgpObject
-object_of object = record {
+abbrev pub pgp_object : MissingObject → PgpObject
+pgp_object object = record {
   epoch = object.version.epoch;
   number = object.version.v;
   name_length = length object.object;
@@ -46,7 +46,7 @@ object_of object = record {
 abbrev pub PutsObjects : Option (List MissingObject) → List PgpObject → List PgpObject → ℕ → ℕ → Type 0
 PutsObjects None old new count status = PutsNone old new count status (status_number NoList)
 PutsObjects (Some objects) old new count status =
-    (new ≡ put_in (map object_of objects) old) × (count ≡ length objects) × (status ≡ status_number (put_status (map object_of objects) old))
+    (new ≡ put_into (map pgp_object objects) old) × (count ≡ length objects) × (status ≡ status_number (put_status (map pgp_object objects) old))
 
 -- those that a member lacks by what the log says of a group, where its map has the group
 abbrev pub PutsLacked : Option View → Member → List PgpObject → List PgpObject → ℕ → ℕ → Type 0
@@ -55,8 +55,8 @@ PutsLacked (Some view) who old new count status = PutsObjects (objects_of view.m
 
 -- The objects that a member lacks, as the log says, were put where C reads them.
 pub record ObjectsIn (log : List Entry) (pool pg osd slot : ℕ) (old new : List PgpObject) (count status : ℕ) : Type 0 where
-  pub bad : (IsGroup pool pg → IsMember osd slot → ⊥) → PutsNone old new count status (status_number BadArgument)
-  pub good : IsGroup pool pg → IsMember osd slot
+  pub bad : (AreOfGroup pool pg → AreOfMember osd slot → ⊥) → PutsNone old new count status (status_number BadArgument)
+  pub good : AreOfGroup pool pg → AreOfMember osd slot
       → PutsLacked (view_in log (group pool pg)) (member osd slot) old new count status
       ⊎ FindsNoList (view_in log (group pool pg)) old new count status
 

@@ -11,15 +11,15 @@ device_number None = 65535
 device_number (Some device) = device
 
 -- the number of the device at a place of the list
-abbrev pub device_at : List (Option ℕ) → ℕ → ℕ
-device_at devices place = device_number (slice_index_or devices place None)
+abbrev pub device_number_at : List (Option ℕ) → ℕ → ℕ
+device_number_at devices place = device_number (slice_index_or devices place None)
 
 -- the numbers of the devices at the first sixteen places
 abbrev pub sixteen : List (Option ℕ) → List ℕ
-sixteen devices = map (device_at devices) (range_with_len 0 16)
+sixteen devices = map (device_number_at devices) (range_with_len 0 16)
 
-abbrev pub place_of : PgId → Membership → ℕ → PgpPlace
-place_of pg members epoch = record {
+abbrev pub pgp_place : PgId → Membership → ℕ → PgpPlace
+pgp_place pg members epoch = record {
   epoch = epoch;
   pg = pg.pg;
   up_primary = device_number members.up_primary;

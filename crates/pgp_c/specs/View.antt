@@ -28,8 +28,8 @@ verdict_number NeedLog = 5
 verdict_number NeedUpThru = 6
 verdict_number Serve = 7
 
-abbrev pub view_of : View → PgpView
-view_of view = record {
+abbrev pub pgp_view : View → PgpView
+pgp_view view = record {
   count = view.count;
   intervals = length view.intervals;
   probe = length view.probe;

@@ -1,7 +1,7 @@
 //! What a session says of a placement group.
 
 ghost use Rattle.std.specs.Prelude.{◌≡◌, ◌↔◌, IsSome, IfSome};
-ghost use Rattle.pgp_c.specs.Ask.{AnswersIn, IsGroup, group};
+ghost use Rattle.pgp_c.specs.Ask.{AnswersIn, AreOfGroup, group};
 
 use super::locate::pool_of;
 use super::status::Status;
@@ -28,7 +28,7 @@ pub fn ask(session: &mut Session, pool: u32, pg: u32) -> Result<View, u32>
 
 /// The group with these numbers, if each is in its range.
 pub fn group_of(pool: u32, pg: u32) -> Option<PgId>
-    ensures in_range { IsSome result ↔ IsGroup pool pg }
+    ensures in_range { IsSome result ↔ AreOfGroup pool pg }
     ensures value { IfSome result (λ id. id ≡ group pool pg) }
 {
     if pg > LAST_GROUP {

@@ -1,7 +1,7 @@
 //! Lists, as C reads them.
 
 ghost use Rattle.std.specs.Prelude.{◌≡◌, length, map};
-ghost use Rattle.pgp_c.specs.Exports.{put_in, put_status};
+ghost use Rattle.pgp_c.specs.Exports.{put_into, put_status};
 
 use super::status::Status;
 
@@ -17,7 +17,7 @@ pub trait AsC<C> {
 
 /// Puts the values, as C reads them, at the start of `room` if they fit, and their number into `count`.
 pub fn put_each<T: AsC<C>, C: Copy>(values: &[T], room: &mut [C], count: &mut usize) -> Status
-    ensures room { room.new ≡ put_in (map T.as_c values.now) room.old }
+    ensures room { room.new ≡ put_into (map T.as_c values.now) room.old }
     ensures count { count.new ≡ length values.now }
     ensures status { result ≡ put_status (map T.as_c values.now) room.old }
 {

@@ -1,8 +1,8 @@
 //! What a member says of its copy of a group, as C gives it.
 
 ghost use Rattle.std.specs.Prelude.{◌≡◌, ◌↔◌, IsSome, IfSome};
-ghost use Rattle.pgp_c.specs.Info.{IsInfo, SubmitsIn, info_of};
-ghost use Rattle.pgp_c.specs.Member.{IsMember, member};
+ghost use Rattle.pgp_c.specs.Info.{IsInfo, SubmitsIn, told_info};
+ghost use Rattle.pgp_c.specs.Member.{AreOfMember, member};
 
 use super::ask::group_of;
 use super::status::Status;
@@ -59,7 +59,7 @@ pub fn submit_info(session: &mut Session, info: &PgpInfo) -> u32
 /// The info with these numbers, if each is in its range.
 fn info_of(info: &PgpInfo) -> Option<Info>
     ensures in_range { IsSome result ↔ IsInfo info.now }
-    ensures value { IfSome result (λ it. it ≡ info_of info.now) }
+    ensures value { IfSome result (λ it. it ≡ told_info info.now) }
 {
     let pg = group_of(info.pool, info.pg)?;
     let member = member_of(info.osd, info.slot)?;
@@ -81,7 +81,7 @@ fn info_of(info: &PgpInfo) -> Option<Info>
 
 /// The member with these numbers, if each is in its range.
 pub fn member_of(osd: u32, slot: u32) -> Option<Member>
-    ensures in_range { IsSome result ↔ IsMember osd slot }
+    ensures in_range { IsSome result ↔ AreOfMember osd slot }
     ensures value { IfSome result (λ it. it ≡ member osd slot) }
 {
     if osd > u32::from(OsdId::MAX) || slot > LAST_SLOT {

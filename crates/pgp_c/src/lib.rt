@@ -8,12 +8,12 @@
 #![tactic(auto)]
 
 ghost use Rattle.std.specs.Prelude.{◌≡◌, Some, map};
-ghost use Rattle.pgp_text.specs.Commands.{Two};
+ghost use Rattle.pgp_lines.specs.declared.command.format.Format.TheVariants.{Two};
 ghost use Rattle.pgp_c.specs.Ask.{Asks};
 ghost use Rattle.pgp_c.specs.Compact.{Compacts};
 ghost use Rattle.pgp_c.specs.Exports.{Opens, Closes, Tells, Repeats, session_format};
 ghost use Rattle.pgp_c.specs.Info.{Submits};
-ghost use Rattle.pgp_c.specs.Lists.{Lists, device_of, interval_of, member_of, peer_of};
+ghost use Rattle.pgp_c.specs.Lists.{Lists, pgp_device, interval_of, member_of, peer_of};
 ghost use Rattle.pgp_c.specs.Locate.{Locates};
 ghost use Rattle.pgp_c.specs.Objects.{Objects};
 
@@ -39,7 +39,7 @@ use lists::{PgpInterval, PgpMember, PgpPeer};
 use locate::locate;
 use objects::{PgpObject, put_objects};
 use open::{open, session_format};
-use pgp_text::Format;
+use pgp_lines::Format;
 use place::PgpPlace;
 use room::put_out;
 use session::PgpSession;
@@ -230,7 +230,7 @@ pub extern "C" fn pgp_blocked_by(
     room: &mut [u16],
     count: &mut usize,
 ) -> u32
-    ensures { Lists session.old.held.session session.new.held.session pool pg (λ view. map device_of view.blocked_by) room.old room.new
+    ensures { Lists session.old.held.session session.new.held.session pool pg (λ view. map pgp_device view.blocked_by) room.old room.new
         count.new result }
 {
     *count = 0;

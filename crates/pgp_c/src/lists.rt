@@ -1,7 +1,7 @@
 //! The lists of what a log says of a placement group, as C reads them.
 
 ghost use Rattle.std.specs.Prelude.{◌≡◌};
-ghost use Rattle.pgp_c.specs.Lists.{device_of, interval_of, lacks, member_of, peer_of, peer_state_number};
+ghost use Rattle.pgp_c.specs.Lists.{pgp_device, interval_of, lacking_count, member_of, peer_of, peer_state_number};
 
 use super::each::AsC;
 use super::place::{device_number, sixteen};
@@ -50,7 +50,7 @@ pub struct PgpPeer {
 }
 
 impl AsC<u16> for OsdId {
-    ghost as_c = { device_of };
+    ghost as_c = { pgp_device };
 
     fn as_c(&self) -> u16 {
         self.number()
@@ -103,7 +103,7 @@ impl AsC<PgpPeer> for PeerMissing {
 
 /// How many objects a member lacks, where that is its state.
 fn lacks(state: &PeerState) -> usize
-    ensures { result ≡ lacks state.now }
+    ensures { result ≡ lacking_count state.now }
 {
     match state {
         PeerState::Missing(objects) => objects.len(),

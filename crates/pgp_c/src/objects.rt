@@ -1,7 +1,7 @@
 //! The objects that a member of a placement group lacks, as C reads them.
 
 ghost use Rattle.std.specs.Prelude.{◌≡◌, option_map};
-ghost use Rattle.pgp_c.specs.Objects.{PutsObjects, lacked, name_room, object_of, objects_of};
+ghost use Rattle.pgp_c.specs.Objects.{PutsObjects, lacked, name_room, pgp_object, objects_of};
 
 use super::each::{AsC, put_each};
 use super::status::Status;
@@ -21,7 +21,7 @@ pub struct PgpObject {
 }
 
 impl AsC<PgpObject> for MissingObject {
-    ghost as_c = { object_of };
+    ghost as_c = { pgp_object };
 
     fn as_c(&self) -> PgpObject {
         PgpObject {

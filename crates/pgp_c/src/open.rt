@@ -6,7 +6,7 @@ ghost use Rattle.pgp_c.specs.Exports.{Opens, session_format};
 use super::session::PgpSession;
 use super::status::Status;
 use pgp_core::Session;
-use pgp_text::Format;
+use pgp_lines::Format;
 use std::alloc::Global;
 
 /// The version of this number, where a session may read lines up to it.

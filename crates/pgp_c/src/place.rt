@@ -1,7 +1,7 @@
 //! Where an object lies, as C reads it.
 
 ghost use Rattle.std.specs.Prelude.{◌≡◌};
-ghost use Rattle.pgp_c.specs.Place.{device_number, device_at, sixteen, place_of};
+ghost use Rattle.pgp_c.specs.Place.{device_number, device_number_at, sixteen, pgp_place};
 
 use pgp_ids::{Epoch, Membership, OsdId, Osds, PgId};
 
@@ -32,7 +32,7 @@ pub struct PgpPlace {
 
 /// The place of a group that has these members.
 pub fn place_of(pg: PgId, members: &Membership, epoch: Epoch) -> PgpPlace
-    ensures { result ≡ place_of pg members.now epoch }
+    ensures { result ≡ pgp_place pg members.now epoch }
 {
     PgpPlace {
         epoch: epoch.number(),
@@ -60,7 +60,7 @@ pub fn device_number(device: Option<OsdId>) -> u16
 
 /// The number of the device at a place of the list.
 fn device_at(devices: &Osds, place: usize) -> u16
-    ensures { result ≡ device_at devices.now place }
+    ensures { result ≡ device_number_at devices.now place }
 {
     match devices.as_slice().get(place) {
         Some(place) => device_number(place.osd()),

@@ -1,13 +1,13 @@
 //! Whether an answer's text fits into the caller's room, and what is put there.
 
 ghost use Rattle.std.specs.Prelude.{◌≡◌, length};
-ghost use Rattle.pgp_c.specs.Exports.{put_in, put_status};
+ghost use Rattle.pgp_c.specs.Exports.{put_into, put_status};
 
 use super::status::Status;
 
 /// Puts a text at the start of `room` if it fits, and its length into `len`.
 pub fn put_out(text: &[u8], room: &mut [u8], len: &mut usize) -> Status
-    ensures room { room.new ≡ put_in text.now room.old }
+    ensures room { room.new ≡ put_into text.now room.old }
     ensures len { len.new ≡ length text.now }
     ensures status { result ≡ put_status text.now room.old }
 {

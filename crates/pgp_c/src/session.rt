@@ -1,7 +1,7 @@
 //! The session of a C program.
 
 ghost use Rattle.std.specs.Prelude.{◌≡◌, Some, None, is_some, option_map};
-ghost use Rattle.pgp_c.specs.Ask.{Answers};
+ghost use Rattle.pgp_c.specs.Ask.{AnswersAsk};
 
 use super::ask::ask;
 use super::held_session::HeldSession;
@@ -42,7 +42,7 @@ impl PgpSession {
     /// What the session says of a group, or the status that says why there is no answer.
     pub fn ask(&mut self, alloc: Global, pool: u32, pg: u32) -> Result<View, u32>
         ensures same { self.new.held.session ≡ self.old.held.session }
-        ensures answer { Answers self.old.held.session pool pg result }
+        ensures answer { AnswersAsk self.old.held.session pool pg result }
     {
         let Some(mut opened) = self.take(alloc) else {
             return Err(Status::NotOpen.number());

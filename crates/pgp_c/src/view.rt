@@ -1,7 +1,7 @@
 //! What a log says of a placement group, as C reads it.
 
 ghost use Rattle.std.specs.Prelude.{◌≡◌};
-ghost use Rattle.pgp_c.specs.View.{best_osd, best_slot, verdict_number, view_of};
+ghost use Rattle.pgp_c.specs.View.{best_osd, best_slot, verdict_number, pgp_view};
 
 use super::place::{device_number, sixteen};
 use pgp_ids::{Member, Verdict, View};
@@ -45,7 +45,7 @@ pub struct PgpView {
 
 /// The view, as C reads it.
 pub fn view_of(view: &View) -> PgpView
-    ensures { result ≡ view_of view.now }
+    ensures { result ≡ pgp_view view.now }
 {
     PgpView {
         count: view.count,

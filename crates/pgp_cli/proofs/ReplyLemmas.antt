@@ -14,12 +14,13 @@ use Rattle.pgp_text.specs.EntryOp.{entry_op}
 use Rattle.pgp_log.specs.Fits.{fits}
 use Rattle.pgp_log.specs.Locate.{place_with, place_of_object}
 use Rattle.pgp_log.specs.Log.{epoch_of, is_legal, IsFrontOf}
-use Rattle.pgp_log.proofs.LogLemmas.{front-legal, legal-last, legal-take}
+use Rattle.pgp_log.proofs.LogLemmas.{front-legal, legal-last}
 use Rattle.pgp_core.specs.Answer.{located_reply, submitted_reply, log_with}
 use Rattle.pgp_core.specs.Answerer.{Replies}
 use Rattle.pgp_core.proofs.LocateLemmas.{located-there}
 use Rattle.pgp_feed.specs.declared.receipt.Receipt.{Receipt}
 use Rattle.pgp_feed.specs.Receipts.{entries_of}
+use Rattle.pgp_engine.proofs.FrontLemmas.{receipt_legal}
 use Rattle.pgp_engine.specs.Intakes.{IsSubmitted, IsRefusedAt}
 
 -- a shorter front is one of all but the last entry
@@ -58,10 +59,6 @@ refused q at entry reason r = record {
   log = ap (log_with (entries_of at) entry) (sym r.refused);
 }
 
--- each receipt names a legal log
-pub named-legal : (r : Receipt) → is_legal (entries_of r) ≡ true
-named-legal r = legal-take r.len r.seen.log r.legal
-
 -- ---- objects
 
 -- the receipt that was found by holds the one that was learnt
@@ -70,7 +67,7 @@ pub located : (q at : Receipt) (id : ℕ) (name : List ℕ) (pg : PgId) (members
     → Replies false (entries_of q) (entries_of at) (Locate id name) (Located pg members now)
 located q at id name pg members now later lies epoch = record {
   by = entries_of at;
-  may = (later, λ _. named-legal at);
+  may = (later, λ _. receipt_legal at);
   is = located-there (entries_of at) id name (place_with pg members) now lies epoch;
   log = refl;
 }
@@ -79,7 +76,7 @@ pub lies-nowhere : (q at : Receipt) (id : ℕ) (name : List ℕ) → IsFrontOf (
     → Replies false (entries_of q) (entries_of at) (Locate id name) (Refused (why.Locate UnknownPool))
 lies-nowhere q at id name later none = record {
   by = entries_of at;
-  may = (later, λ _. named-legal at);
+  may = (later, λ _. receipt_legal at);
   is = ap (located_reply (entries_of at) id name) (sym none);
   log = refl;
 }

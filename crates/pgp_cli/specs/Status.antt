@@ -1,14 +1,14 @@
 -- What the program did to its reader and writer, by how it ended.
 use Rattle.std.specs.Prelude.{◌≡◌, ◌⊎◌, List, ℕ, Bool, true, Option}
 use Rattle.std.specs.Io.KnownBytes.{Appends}
-use Rattle.pgp_compact_script.specs.Compaction.{IsCompacted, IsCutShort as CompactIsCut}
-use Rattle.pgp_compact_script.specs.declared.compact.Compaction.{Compaction}
-use Rattle.pgp_text.specs.Commands.{Format}
+use Rattle.pgp_whole.specs.Compaction.{IsCompacted, IsCompactedInPart}
+use Rattle.pgp_whole.specs.declared.compact.Compaction.{Compaction}
+use Rattle.pgp_lines.specs.declared.command.format.Format.{Format}
 use Rattle.pgp_core.specs.Account.{Account, NoCallFailed}
 use Rattle.pgp_core.specs.Output.{FrontWent}
 use Rattle.pgp_core.specs.Run.{AllAnswered, Stopped, script_bounds}
 use Rattle.pgp_core.specs.declared.fault.ScriptFault.{ScriptFault}
-use Rattle.pgp_explain.specs.Explanation.{Question, IsExplained, IsCutShort as ExplainIsCut}
+use Rattle.pgp_whole.specs.Explanation.{Question, IsExplained, IsExplainedInPart}
 use Rattle.pgp_cli.specs.declared.ending.Ending.{Ending}
 use Rattle.pgp_cli.specs.declared.ending.Ending.TheVariants.{Done, Usage, Fault}
 
@@ -53,8 +53,8 @@ pub record HelpIsShown (before after : Account) : Type 0 where
 
 -- a write failed: a first part went out of what a log says of a group or of all, of the lines that remain of a script, or of help
 pub record IsCut (before after : Account) : Type 0 where
-  pub part : ((asked : Question) × ExplainIsCut asked before.remaining after.remaining before.contents after.contents)
-      ⊎ (((format : Format) × CompactIsCut format before.remaining after.remaining before.contents after.contents after.write_failed)
+  pub part : ((asked : Question) × IsExplainedInPart asked before.remaining after.remaining before.contents after.contents)
+      ⊎ (((format : Format) × IsCompactedInPart format before.remaining after.remaining before.contents after.contents after.write_failed)
       ⊎ ((text : List ℕ) × FrontWent before.contents after.contents text))
   pub failed : after.write_failed ≡ true
 

@@ -37,9 +37,10 @@ const EXPLAIN_HELP: &str = "\
 The script is read as 'pgpeer run' reads it: each line is judged by the lines
 before it. Standard error says which lines are refused, by their numbers, and why;
 ask, locate and trace lines are read and not answered. At the end of the script
-comes the explanation: of one group its verdict, what it waits for, and what would
-bring it back; without a group, how many groups have each verdict, and which
-devices they wait for.
+comes the explanation: of one group its verdict, what it waits for, which devices
+to start so that it is Down no more, and what it is then; without a group, how many
+groups have each verdict, which devices they wait for, and how many of them the
+start of each device frees.
 
 Example:
   pgpeer explain 1.a < script.jsonl
@@ -80,6 +81,9 @@ const WORKERS_HELP: &str =
 const GROUP_HELP: &str =
     "The group, POOL.SEED: pool 1 to 255 in decimal, seed 0 to 3ff in hexadecimal [default: all groups]";
 
+const LOSSES_HELP: &str =
+    "Also says, of a group, what ends Down by declaring devices lost: the last resort";
+
 const JSON_HELP: &str = "Writes one line of JSON in place of words";
 
 const OFFSET_HELP: &str =
@@ -117,18 +121,23 @@ fn run<'a>(alloc: Global) -> Result<Command<'a>, AllocError> {
         .arg(count(alloc, "format", FORMAT_HELP))
 }
 
-/// `explain [PG] [--json] [--epoch-offset N] [--format N]`
+/// `explain [PG] [--losses] [--json] [--epoch-offset N] [--format N]`
 fn explain<'a>(alloc: Global) -> Result<Command<'a>, AllocError> {
     let json = Arg::new(alloc, "json")
         .long("json")
         .action(ArgAction::SetTrue)
         .help(JSON_HELP);
+    let losses = Arg::new(alloc, "losses")
+        .long("losses")
+        .action(ArgAction::SetTrue)
+        .help(LOSSES_HELP);
     Command::new(alloc, "explain")
         .about(
             "Reads a script from standard input and says why a group doesn't serve, and what brings it back",
         )
         .after_help(EXPLAIN_HELP)
         .arg(Arg::new(alloc, "pg").value_name("PG").help(GROUP_HELP))?
+        .arg(losses)?
         .arg(json)?
         .arg(count(alloc, "epoch-offset", OFFSET_HELP))?
         .arg(count(alloc, "format", FORMAT_HELP))

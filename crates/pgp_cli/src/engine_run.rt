@@ -17,7 +17,7 @@ use answerer::EngineAnswerer;
 use pgp_core::{SCRIPT_BOUNDS, ScriptFault, Sink, Source, answer_script};
 use pgp_engine::{Client, Engine, Naming};
 use pgp_feed::{Feed, Tap};
-use pgp_text::Format;
+use pgp_lines::Format;
 use std::alloc::Global;
 use std::marker::Brand;
 use std::sync::Wait;
@@ -45,13 +45,13 @@ pub fn run_engine<R: Source, W: Sink, T: Threads + Wait + Sync>(
     requires shards { (1 ≤ shards) × (shards ≤ 64) }
     requires workers { (1 ≤ workers) × (workers ≤ 64) }
     ensures ok { OnOk result (AllAnswered false format script_bounds
-        (account (R.remaining reader.old) (W.contents writer.old) (R.failed reader.old) (W.failed writer.old))
-        (account (R.remaining reader.new) (W.contents writer.new) (R.failed reader.new) (W.failed writer.new))) }
+        (account (R.state reader.old) (W.state writer.old))
+        (account (R.state reader.new) (W.state writer.new))) }
     ensures err { IfErr result (λ fault. ((fault ≡ ScriptFault.Gone) × (reader.new ≡ reader.old) × (writer.new ≡ writer.old))
         ⊎ Stopped false format script_bounds
-        (account (R.remaining reader.old) (W.contents writer.old) (R.failed reader.old) (W.failed writer.old))
-        (account (R.remaining reader.new) (W.contents writer.new) (R.failed reader.new) (W.failed writer.new)) fault) }
-    ensures passed_on { OnOk result (W.passed_on writer.new ≡ true) }
+        (account (R.state reader.old) (W.state writer.old))
+        (account (R.state reader.new) (W.state writer.new)) fault) }
+    ensures passed_on { OnOk result ((W.state writer.new).passed_on ≡ true) }
 {
     let Ok((feed, taps)) = Feed::make(rt, alloc, shards + 2) else {
         return Err(ScriptFault::Gone);
@@ -85,12 +85,12 @@ fn run_over<J: Naming + Send + Sync, R: Source, W: Sink, T: Threads + Wait + Syn
     requires each { All (λ tap. last_of tap ≡ told_of made.0) made.1.items }
     requires shards { (1 ≤ shards) × (shards ≤ 64) }
     requires workers { (1 ≤ workers) × (workers ≤ 64) }
-    ensures ok { OnOk result (AllAnswered false format script_bounds (account (R.remaining reader.old) (W.contents writer.old) (R.failed reader.old) (W.failed writer.old))
-        (account (R.remaining reader.new) (W.contents writer.new) (R.failed reader.new) (W.failed writer.new))) }
+    ensures ok { OnOk result (AllAnswered false format script_bounds (account (R.state reader.old) (W.state writer.old))
+        (account (R.state reader.new) (W.state writer.new))) }
     ensures err { IfErr result (λ fault. ((fault ≡ ScriptFault.Gone) × (reader.new ≡ reader.old) × (writer.new ≡ writer.old))
-        ⊎ Stopped false format script_bounds (account (R.remaining reader.old) (W.contents writer.old) (R.failed reader.old) (W.failed writer.old))
-        (account (R.remaining reader.new) (W.contents writer.new) (R.failed reader.new) (W.failed writer.new)) fault) }
-    ensures passed_on { OnOk result (W.passed_on writer.new ≡ true) }
+        ⊎ Stopped false format script_bounds (account (R.state reader.old) (W.state writer.old))
+        (account (R.state reader.new) (W.state writer.new)) fault) }
+    ensures passed_on { OnOk result ((W.state writer.new).passed_on ≡ true) }
 {
     let (feed, taps) = made;
     let Ok((engine, mut clients)) = Engine::<J>::make(rt, alloc, feed, taps, shards, workers) else {
@@ -128,12 +128,12 @@ fn run_among_workers<'r, 'w, J: Naming + Send + Sync, R: Source, W: Sink, T: Thr
     requires { workers ≤ engine.now.workers }
     ensures reader { result.reader.ghost_name ≡ reader.entry.ghost_name }
     ensures writer { result.writer.ghost_name ≡ writer.entry.ghost_name }
-    ensures ok { OnOk result.outcome (AllAnswered false format script_bounds (account (R.remaining reader.entry.now) (W.contents writer.entry.now) (R.failed reader.entry.now) (W.failed writer.entry.now))
-        (account (R.remaining result.reader.now) (W.contents result.writer.now) (R.failed result.reader.now) (W.failed result.writer.now))) }
+    ensures ok { OnOk result.outcome (AllAnswered false format script_bounds (account (R.state reader.entry.now) (W.state writer.entry.now))
+        (account (R.state result.reader.now) (W.state result.writer.now))) }
     ensures err { IfErr result.outcome (λ fault. ((fault ≡ ScriptFault.Gone) × (result.reader.now ≡ reader.entry.now) × (result.writer.now ≡ writer.entry.now))
-        ⊎ Stopped false format script_bounds (account (R.remaining reader.entry.now) (W.contents writer.entry.now) (R.failed reader.entry.now) (W.failed writer.entry.now))
-        (account (R.remaining result.reader.now) (W.contents result.writer.now) (R.failed result.reader.now) (W.failed result.writer.now)) fault) }
-    ensures passed_on { OnOk result.outcome (W.passed_on result.writer.now ≡ true) }
+        ⊎ Stopped false format script_bounds (account (R.state reader.entry.now) (W.state writer.entry.now))
+        (account (R.state result.reader.now) (W.state result.writer.now)) fault) }
+    ensures passed_on { OnOk result.outcome ((W.state result.writer.now).passed_on ≡ true) }
 {
     thread::scope(
         thread::scope_env(),
@@ -142,12 +142,12 @@ fn run_among_workers<'r, 'w, J: Naming + Send + Sync, R: Source, W: Sink, T: Thr
             requires { workers ≤ engine.now.workers }
             ensures reader { result.reader.ghost_name ≡ reader.entry.ghost_name }
             ensures writer { result.writer.ghost_name ≡ writer.entry.ghost_name }
-            ensures ok { OnOk result.outcome (AllAnswered false format script_bounds (account (R.remaining reader.entry.now) (W.contents writer.entry.now) (R.failed reader.entry.now) (W.failed writer.entry.now))
-                (account (R.remaining result.reader.now) (W.contents result.writer.now) (R.failed result.reader.now) (W.failed result.writer.now))) }
+            ensures ok { OnOk result.outcome (AllAnswered false format script_bounds (account (R.state reader.entry.now) (W.state writer.entry.now))
+                (account (R.state result.reader.now) (W.state result.writer.now))) }
             ensures err { IfErr result.outcome (λ fault. ((fault ≡ ScriptFault.Gone) × (result.reader.now ≡ reader.entry.now) × (result.writer.now ≡ writer.entry.now))
-                ⊎ Stopped false format script_bounds (account (R.remaining reader.entry.now) (W.contents writer.entry.now) (R.failed reader.entry.now) (W.failed writer.entry.now))
-                (account (R.remaining result.reader.now) (W.contents result.writer.now) (R.failed result.reader.now) (W.failed result.writer.now)) fault) }
-            ensures passed_on { OnOk result.outcome (W.passed_on result.writer.now ≡ true) }
+                ⊎ Stopped false format script_bounds (account (R.state reader.entry.now) (W.state writer.entry.now))
+                (account (R.state result.reader.now) (W.state result.writer.now)) fault) }
+            ensures passed_on { OnOk result.outcome ((W.state result.writer.now).passed_on ≡ true) }
         {
             if !all_started(rt, scope, engine, workers) {
                 close(rt, engine);
@@ -178,11 +178,11 @@ fn answer_by<J: Naming, R: Source, W: Sink, T: Wait>(
     reader: &mut R,
     writer: &mut W,
 ) -> Result<(), ScriptFault>
-    ensures ok { OnOk result (AllAnswered false format script_bounds (account (R.remaining reader.old) (W.contents writer.old) (R.failed reader.old) (W.failed writer.old))
-        (account (R.remaining reader.new) (W.contents writer.new) (R.failed reader.new) (W.failed writer.new))) }
-    ensures err { IfErr result (Stopped false format script_bounds (account (R.remaining reader.old) (W.contents writer.old) (R.failed reader.old) (W.failed writer.old))
-        (account (R.remaining reader.new) (W.contents writer.new) (R.failed reader.new) (W.failed writer.new))) }
-    ensures passed_on { OnOk result (W.passed_on writer.new ≡ true) }
+    ensures ok { OnOk result (AllAnswered false format script_bounds (account (R.state reader.old) (W.state writer.old))
+        (account (R.state reader.new) (W.state writer.new))) }
+    ensures err { IfErr result (Stopped false format script_bounds (account (R.state reader.old) (W.state writer.old))
+        (account (R.state reader.new) (W.state writer.new))) }
+    ensures passed_on { OnOk result ((W.state writer.new).passed_on ≡ true) }
 {
     let mut answerer = EngineAnswerer::new(rt, engine, client);
     answer_script(alloc, format, &mut answerer, reader, writer, SCRIPT_BOUNDS)

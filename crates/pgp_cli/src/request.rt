@@ -5,7 +5,7 @@ use super::commands::{compact_error, explain_error, parse, run_error};
 use clap::error::ErrorKind;
 use clap::{ArgMatches, Error};
 use pgp_ids::{PgId, PoolId};
-use pgp_text::Format;
+use pgp_lines::Format;
 use std::alloc::Global;
 
 /// The greatest number of shards or workers.
@@ -50,6 +50,8 @@ pub struct RunOptions {
 pub struct ExplainOptions {
     /// The group; if there is none, a summary over all groups.
     pub pg: Option<PgId>,
+    /// With ways that declare devices lost.
+    pub losses: bool,
     /// One JSON object in place of words.
     pub json: bool,
     /// What is added to each epoch in the explanation, except to 0.
@@ -169,6 +171,7 @@ fn explain_options(alloc: Global, explain: &ArgMatches) -> Result<ExplainOptions
     };
     Ok(ExplainOptions {
         pg,
+        losses: explain.get_flag("losses"),
         json: explain.get_flag("json"),
         epoch_offset,
         format,

@@ -8,10 +8,10 @@ use super::ending::Ending;
 use super::engine_run::run_engine;
 use super::fault::Fault;
 use super::request::{CompactOptions, ExplainOptions, Request, RunOptions, read_request};
+use super::streams::Counted;
 use super::tell::{help_or_usage, report_fault, report_left_out};
-use pgp_compact_script::{CompactFault, compact_script};
-use pgp_core::{ScriptFault, Sink, Source, run_script};
-use pgp_explain::{ExplainFault, explain};
+use pgp_core::{ScriptFault, Sink, run_script};
+use pgp_whole::{compact_script, explain};
 use std::alloc::Global;
 use std::io::Write;
 use std::sync::Wait;
@@ -22,7 +22,7 @@ use std::thread::Threads;
 /// Answers, explanations, lines that remain and help go to `writer`. What is wrong goes to `errors`, also the refused lines of a
 /// script that is explained, and how many entries a compaction left out. What cannot be written to `errors` is lost. A run with
 /// workers starts threads and waits for them; anything else is done on this thread alone.
-pub fn status_of<R: Source, W: Sink, E: Write, T: Threads + Wait + Sync>(
+pub fn status_of<R: Counted, W: Sink, E: Write, T: Threads + Wait + Sync>(
     rt: &T,
     alloc: Global,
     words: &[String],
@@ -31,9 +31,9 @@ pub fn status_of<R: Source, W: Sink, E: Write, T: Threads + Wait + Sync>(
     errors: &mut E,
 ) -> Ending
     ensures ended { HasEnded result
-        (account (R.remaining reader.old) (W.contents writer.old) (R.failed reader.old) (W.failed writer.old))
-        (account (R.remaining reader.new) (W.contents writer.new) (R.failed reader.new) (W.failed writer.new)) }
-    ensures passed_on { result ≡ Ending.Done → W.passed_on writer.new ≡ true }
+        (account (R.state reader.old) (W.state writer.old))
+        (account (R.state reader.new) (W.state writer.new)) }
+    ensures passed_on { result ≡ Ending.Done → (W.state writer.new).passed_on ≡ true }
 {
     match read_request(alloc, words) {
         Ok(Request::Run(options)) => run(rt, alloc, options, reader, writer, errors),
@@ -44,7 +44,7 @@ pub fn status_of<R: Source, W: Sink, E: Write, T: Threads + Wait + Sync>(
 }
 
 /// Answers the script, without workers on this thread and with them over an engine, and says how that ended.
-fn run<R: Source, W: Sink, E: Write, T: Threads + Wait + Sync>(
+fn run<R: Counted, W: Sink, E: Write, T: Threads + Wait + Sync>(
     rt: &T,
     alloc: Global,
     options: RunOptions,
@@ -53,9 +53,9 @@ fn run<R: Source, W: Sink, E: Write, T: Threads + Wait + Sync>(
     errors: &mut E,
 ) -> Ending
     ensures ended { HasEnded result
-        (account (R.remaining reader.old) (W.contents writer.old) (R.failed reader.old) (W.failed writer.old))
-        (account (R.remaining reader.new) (W.contents writer.new) (R.failed reader.new) (W.failed writer.new)) }
-    ensures passed_on { result ≡ Ending.Done → W.passed_on writer.new ≡ true }
+        (account (R.state reader.old) (W.state writer.old))
+        (account (R.state reader.new) (W.state writer.new)) }
+    ensures passed_on { result ≡ Ending.Done → (W.state writer.new).passed_on ≡ true }
 {
     let RunOptions {
         shards,
@@ -82,7 +82,7 @@ fn run<R: Source, W: Sink, E: Write, T: Threads + Wait + Sync>(
 }
 
 /// The fault that stopped a script.
-fn script_fault<R: Source>(why: ScriptFault, reader: &R) -> Fault {
+fn script_fault<R: Counted>(why: ScriptFault, reader: &R) -> Fault {
     match why {
         ScriptFault::Read => Fault::of_reader(reader),
         ScriptFault::Write => Fault::Write,
@@ -91,7 +91,7 @@ fn script_fault<R: Source>(why: ScriptFault, reader: &R) -> Fault {
 }
 
 /// Explains what the script says of a group, or of all groups.
-fn explain_script<R: Source, W: Sink, E: Write>(
+fn explain_script<R: Counted, W: Sink, E: Write>(
     alloc: Global,
     options: &ExplainOptions,
     reader: &mut R,
@@ -99,9 +99,9 @@ fn explain_script<R: Source, W: Sink, E: Write>(
     errors: &mut E,
 ) -> Ending
     ensures ended { HasEnded result
-        (account (R.remaining reader.old) (W.contents writer.old) (R.failed reader.old) (W.failed writer.old))
-        (account (R.remaining reader.new) (W.contents writer.new) (R.failed reader.new) (W.failed writer.new)) }
-    ensures passed_on { result ≡ Ending.Done → W.passed_on writer.new ≡ true }
+        (account (R.state reader.old) (W.state writer.old))
+        (account (R.state reader.new) (W.state writer.new)) }
+    ensures passed_on { result ≡ Ending.Done → (W.state writer.new).passed_on ≡ true }
 {
     let outcome = explain(
         alloc,
@@ -110,17 +110,18 @@ fn explain_script<R: Source, W: Sink, E: Write>(
         writer,
         errors,
         options.pg,
+        options.losses,
         options.json,
         options.epoch_offset,
     );
     match outcome {
         Ok(()) => Ending::Done,
-        Err(why) => report_fault(Fault::from(why), errors),
+        Err(why) => report_fault(Fault::of_explain(why, reader), errors),
     }
 }
 
 /// Writes the lines of the script that remain, and reports how many entries were left out.
-fn compact<R: Source, W: Sink, E: Write>(
+fn compact<R: Counted, W: Sink, E: Write>(
     alloc: Global,
     options: CompactOptions,
     reader: &mut R,
@@ -128,15 +129,15 @@ fn compact<R: Source, W: Sink, E: Write>(
     errors: &mut E,
 ) -> Ending
     ensures ended { HasEnded result
-        (account (R.remaining reader.old) (W.contents writer.old) (R.failed reader.old) (W.failed writer.old))
-        (account (R.remaining reader.new) (W.contents writer.new) (R.failed reader.new) (W.failed writer.new)) }
-    ensures passed_on { result ≡ Ending.Done → W.passed_on writer.new ≡ true }
+        (account (R.state reader.old) (W.state writer.old))
+        (account (R.state reader.new) (W.state writer.new)) }
+    ensures passed_on { result ≡ Ending.Done → (W.state writer.new).passed_on ≡ true }
 {
     match compact_script(alloc, options.format, reader, writer) {
         Ok(counts) => {
             report_left_out(&counts, errors);
             Ending::Done
         }
-        Err(why) => report_fault(Fault::from(why), errors),
+        Err(why) => report_fault(Fault::of_compact(why, reader), errors),
     }
 }

@@ -1,15 +1,22 @@
-//! Streams that note whether one of their calls failed, and whether what was written was passed on.
+//! Streams that note whether one of their calls failed, how far they were read, and whether what was written was passed on.
 ghost use Rattle.std.specs.Prelude.{◌≡◌, false};
 
-use pgp_core::{Sink, Source};
+use pgp_core::{Bounds, Sink, Source};
 use std::io;
 use std::io::{Read, Write};
 
-/// A stream, whether one of its calls failed, and whether it was flushed behind its last write.
+/// A reader that counts what it gave.
+pub trait Counted: Source {
+    /// How many line feeds and how many bytes reads gave.
+    fn given(&self) -> Bounds;
+}
+
+/// A stream, whether one of its calls failed, how many lines and bytes it gave, and whether it was flushed behind its last write.
 #[derive(Drop)]
 pub struct WatchedStream<S: Drop> {
     stream: S,
     failed: bool,
+    given: Bounds,
     flushed: bool,
 }
 
@@ -21,6 +28,7 @@ impl<S: Drop> WatchedStream<S> {
         WatchedStream {
             stream,
             failed: false,
+            given: Bounds { lines: 0, bytes: 0 },
             flushed: false,
         }
     }
@@ -33,13 +41,14 @@ impl<S: Drop> WatchedStream<S> {
 }
 
 impl<R: Read + Drop> Source for WatchedStream<R> {
-    ghost remaining = { λ watched. R.remaining watched.stream };
-
-    ghost failed = { λ watched. watched.failed };
+    ghost state = { λ watched. record { remaining = R.remaining watched.stream; failed = watched.failed } };
 
     fn read(&mut self, buf: &mut [u8]) -> io::Result<usize> {
         let result = self.stream.read(buf);
-        self.failed = self.failed || result.is_err();
+        match result {
+            Ok(count) => self.given = with_more(self.given, &buf[..count]),
+            Err(_) => self.failed = true,
+        }
         result
     }
 
@@ -48,12 +57,23 @@ impl<R: Read + Drop> Source for WatchedStream<R> {
     }
 }
 
+impl<R: Read + Drop> Counted for WatchedStream<R> {
+    fn given(&self) -> Bounds {
+        self.given
+    }
+}
+
+/// How many lines and bytes there are with these bytes.
+fn with_more(given: Bounds, bytes: &[u8]) -> Bounds {
+    let lines = bytes.iter().filter(|byte| **byte == b'\n').count();
+    Bounds {
+        lines: given.lines.saturating_add(lines as u64),
+        bytes: given.bytes.saturating_add(bytes.len() as u64),
+    }
+}
+
 impl<W: Write + Drop> Sink for WatchedStream<W> {
-    ghost contents = { λ watched. W.contents watched.stream };
-
-    ghost failed = { λ watched. watched.failed };
-
-    ghost passed_on = { λ watched. watched.flushed };
+    ghost state = { λ watched. record { contents = W.contents watched.stream; failed = watched.failed; passed_on = watched.flushed } };
 
     fn write(&mut self, buf: &[u8]) -> io::Result<usize> {
         self.flushed = false;

@@ -6,8 +6,8 @@ use super::ending::Ending;
 use super::fault::Fault;
 use clap::Error;
 use clap::error::ErrorKind;
-use pgp_compact_script::Compaction;
 use pgp_core::{Sink, pass_on};
+use pgp_whole::Compaction;
 use std::alloc::{AllocError, Global};
 use std::io;
 use std::io::Write;
@@ -20,8 +20,8 @@ pub fn help_or_usage<W: Sink, E: Write>(
     writer: &mut W,
     errors: &mut E,
 ) -> Ending
-    ensures shown { HasShown result (W.contents writer.old) (W.contents writer.new) (W.failed writer.old) (W.failed writer.new) }
-    ensures passed_on { result ≡ Ending.Done → W.passed_on writer.new ≡ true }
+    ensures shown { HasShown result (W.state writer.old).contents (W.state writer.new).contents (W.state writer.old).failed (W.state writer.new).failed }
+    ensures passed_on { result ≡ Ending.Done → (W.state writer.new).passed_on ≡ true }
 {
     if error.use_stderr() {
         return usage(error, words, errors);
@@ -65,8 +65,8 @@ fn tell_source<E: Write>(words: &[String], errors: &mut E) {
 
 /// Shows the text of help.
 fn show_help<W: Sink, E: Write>(help: &str, writer: &mut W, errors: &mut E) -> Ending
-    ensures shown { HasShown result (W.contents writer.old) (W.contents writer.new) (W.failed writer.old) (W.failed writer.new) }
-    ensures passed_on { result ≡ Ending.Done → W.passed_on writer.new ≡ true }
+    ensures shown { HasShown result (W.state writer.old).contents (W.state writer.new).contents (W.state writer.old).failed (W.state writer.new).failed }
+    ensures passed_on { result ≡ Ending.Done → (W.state writer.new).passed_on ≡ true }
 {
     match pass_on(writer, help.as_bytes()) {
         Ok(()) => Ending::Done,

@@ -1,5 +1,5 @@
 -- A log that was compacted and goes on is compacted to what the whole log is, if that goes on so.
-use Rattle.pgp_compact.proofs.Common.{AnyCode, Bool, Contains, Contains-here, Contains-later, Entry, GroupLog, History, Incremental, Info, List, LogEntry, None, Option, PgId, Report, Some, Span, [], and_parts, any-contains, any-same, ap, ap₂, are_checked, arith, cases_Bool, clean_spans, compacted, contains-any, counts_by, current_span, epoch, false, filter-append, filter-contains, filter_map-append, filter_map-from, group_history, group_in, group_with, has_number, incs, incs_of, info_of, infos, infos_in, is_clean_from, is_counted, is_needed, is_same_group, is_within, les, list_any, list_any-append, may_be_heard, nat_eq, nat_le, nat_lt, nat_tests, needed_of, needs_info, needs_report, none-narrower, not, option_map, past_spans, refl, replaces, replaces_number, report_of, reports_in, same_member, starts_as_late, sym, tells_last_clean, tells_last_of, tells_last_start, true, ℕ, ◌&&◌, ◌++◌, ◌+◌, ◌||◌, ◌∙◌, ◌∷◌, ◌≡◌, ◌≤◌, any-agree}
+use Rattle.pgp_compact.proofs.Common.{AnyCode, Bool, Contains, Contains-here, Contains-later, Entry, GroupLog, History, Incremental, Info, List, LogEntry, None, Option, PgId, Report, Some, Span, [], and_parts, any-contains, any-same, ap, are_checked, arith, cases_Bool, clean_spans, compacted, contains-any, counts_by, current_span, epoch, false, filter-append, filter-contains, filter_map-append, filter_map-from, group_history, group_in, group_with, has_number, incs, incs_of, info_of, infos, infos_in, is_clean_from, is_counted, is_needed, is_same_group, is_in_span, les, list_any, list_any-append, may_be_heard, nat_eq, nat_le, nat_lt, nat_tests, needed_of, needs_info, needs_report, none-narrower, not, option_map, past_spans, refl, replaces, replaces_number, report_of, reports_in, same_member, starts_as_late, sym, tells_last_clean, tells_last_of, tells_last_start, true, ℕ, ◌&&◌, ◌++◌, ◌+◌, ◌||◌, ◌∙◌, ◌∷◌, ◌≡◌, ◌≤◌, any-agree}
 use Rattle.pgp_compact.proofs.GoneOnLemmas.{IsSent, NeverCountsAgain, WasSent, all-told, before, clean-alike, incs-alike, infos-are, infos-whole, les-alike, less, whole}
 use Rattle.pgp_compact.proofs.IntervalLemmas.{CanMatter, span_ending, spans-are, was-among}
 use Rattle.pgp_compact.proofs.LegalLemmas.{group-stays}
@@ -109,7 +109,7 @@ module _ (never : NeverCountsAgain) (log more : List Entry) (pg : PgId) (after :
   of-kept rest info held last matters =
       let clean : ℕ → Info → Bool = is_clean_from (span_ending after last) in
       let n : ℕ = info.last_epoch_clean in
-      same-both (is_within n (span_ending after last)) (not (list_any (clean (n + 1)) (infos old))) (list_any (clean n) (needed_of wants rest ++ came)) (list_any (clean n) (rest ++ came))
+      same-both (is_in_span n (span_ending after last)) (not (list_any (clean (n + 1)) (infos old))) (list_any (clean n) (needed_of wants rest ++ came)) (list_any (clean n) (rest ++ came))
       (λ within no_more.
       let none : list_any (clean (n + 1)) (infos_in pg log ++ came) ≡ false =
       ap (list_any (clean (n + 1))) (sym (infos-whole never log more pg after checked then' sent)) ∙ grind (arith, nat_tests) in
@@ -136,11 +136,11 @@ module _ (never : NeverCountsAgain) (log more : List Entry) (pg : PgId) (after :
       let is = spans-are old found.0 found.1.0 in
       let span : Span = span_ending after is.0 in
       let told : tells_last_of old (rest ++ came) info span ≡ true = ap (tells_last_of old (rest ++ came) info) (sym is.1) ∙ found.1.1 in
-      let within : is_within n span ≡ true = grind (arith, nat_tests) in
+      let within : is_in_span n span ≡ true = grind (arith, nat_tests) in
       let none : list_any (is_clean_from span (n + 1)) (infos old) ≡ false = grind (arith, nat_tests) in
       let none_later : list_any (is_clean_from span n) (rest ++ came) ≡ false = grind (arith, nat_tests) in
       let w = was-among g after b.on (les old) b.starts is.0 n is.2 (omega (arith, known, b.known)) within in
-      let here : is_within n w.span ≡ true = w.same n (omega (arith, known, b.known)) ∙ within in
+      let here : is_in_span n w.span ≡ true = w.same n (omega (arith, known, b.known)) ∙ within in
       let none_told : list_any (is_clean_from span (n + 1)) (infos_in pg log) ≡ false =
       none-front (is_clean_from span (n + 1)) (infos_in pg log) came (ap (list_any (is_clean_from span (n + 1))) (sym (infos-whole never log more pg after checked then' sent)) ∙ none) in
       let no_more : list_any (is_clean_from w.span (n + 1)) (infos g) ≡ false =
@@ -186,7 +186,7 @@ module _ (never : NeverCountsAgain) (log more : List Entry) (pg : PgId) (after :
       let n : ℕ = info.last_epoch_clean in
       let one = clean-alike never log more pg after checked then' sent is.0 (n + 1) is.2 in
       let of' : tells_last_of new later info (span_ending after is.0) ≡ tells_last_of old later info (span_ending after is.0) =
-      ap (λ (b : Bool). is_within n (span_ending after is.0) && not b && not (list_any (is_clean_from (span_ending after is.0) n) later)) (sym one) in
+      ap (λ (b : Bool). is_in_span n (span_ending after is.0) && not b && not (list_any (is_clean_from (span_ending after is.0) n) later)) (sym one) in
       ap (tells_last_of new later info) is.1 ∙ of' ∙ ap (tells_last_of old later info) (sym is.1)) in
       λ i. heard i || start i || clean i
 

@@ -6,25 +6,23 @@ pub use Rattle.std.proofs.Math.Seq.{drop-cons, drop-length}
 pub use Rattle.std.proofs.lemmas.Bool.{cases_eq}
 pub use Rattle.std.proofs.lemmas.List.{drop_all, drop_more, get_or-map, get_or_append_left, get_or_push, map_more, reverse-append}
 pub use Rattle.std.proofs.lemmas.List.FromFn.{get_or-range_with_len, length-range_with_len}
-pub use Rattle.std.proofs.lemmas.List.Sorted.{IsPartitionPoint-from_clause, IsPartitionedBy-leb}
 pub use Rattle.std.proofs.lemmas.Map.Lookups.{exact_unsigned}
 pub use Rattle.std.proofs.lemmas.Option.{slice_get_read}
 pub use Rattle.std.specs.Arc.{arc_value}
 pub use Rattle.std.specs.HashMap.{HashMap}
 pub use Rattle.std.specs.List.{range_with_len}
-pub use Rattle.std.specs.List.Sorted.{IsNonDecreasingBy, IsPartitionPoint}
 pub use Rattle.std.specs.Option.{IfNone}
 pub use Rattle.std.specs.Prelude.{slice_get, ◌⊎◌}
 pub use Rattle.std.specs.Vec.{with_items}
-pub use Rattle.pgp_compact.specs.Compacted.{are_needed_in, clean_spans, compacted, current_span, infos_in, is_clean_from, is_needed, is_within, may_be_heard, needs_info, needs_report, past_spans, replaces, replaces_number, reports_in, span_of, starts_as_late, tells_last_clean, tells_last_of, tells_last_start, wants_clean}
-pub use Rattle.pgp_compact.specs.Course.{IsCourse, IsNext, IsUnderWay, LiesAt, ended, lies_on, may_leave}
+pub use Rattle.pgp_reasons.specs.Reported.{infos_in}
+pub use Rattle.pgp_compact.specs.Compacted.{are_needed_in, clean_spans, compacted, current_span, is_clean_from, is_needed, is_in_span, may_be_heard, needs_info, needs_report, past_spans, replaces, replaces_number, reports_in, span_of, starts_as_late, tells_last_clean, tells_last_of, tells_last_start, wants_clean}
+pub use Rattle.pgp_compact.specs.Course.{IsCourse, IsNext, IsOnCourse, LiesAt, ended, lies_on, may_leave}
 pub use Rattle.pgp_compact.specs.Courses.{AreCourses, EachIsCourse, HasReport, IsCourseIn, IsReportOf, IsSameButCourse, started_by}
 pub use Rattle.pgp_compact.specs.Greatest.{IsGreatestOf, reaches}
-pub use Rattle.pgp_compact.specs.Later.{AreLastCleans, IsLater, clean_in, is_same_number, is_same_opening, is_same_sender, number_of, numbers, opening_at, sender_of, sent, started, written}
+pub use Rattle.pgp_compact.specs.Later.{AreLastCleans, IsLater, clean_in, is_same_number, is_same_opening, is_same_sender, write_number, numbers, opening_at, sender_of, sent, told_opening, written}
 pub use Rattle.pgp_compact.specs.Needed.{are_needed, chosen, needed_of}
-pub use Rattle.pgp_compact.specs.Spans.{LieApart}
 pub use Rattle.pgp_compact.specs.Standing.{HasReached, opening_in, standing_at}
-pub use Rattle.pgp_compact.specs.Whole.{HasRead}
+pub use Rattle.pgp_compact.specs.Whole.{HasReadFront}
 pub use Rattle.pgp_compact.specs.declared.course.Course.{Course}
 pub use Rattle.pgp_compact.specs.declared.courses.Courses.{Courses}
 pub use Rattle.pgp_compact.specs.declared.keys.Number.{Number}
@@ -67,15 +65,13 @@ pub use Rattle.pgp_lists.proofs.Options.{map_none, some_is}
 pub use Rattle.pgp_lists.proofs.Ranges.{range-contains}
 pub use Rattle.pgp_log.proofs.ComingLemmas.{comes-with_pool, has_group-same}
 pub use Rattle.pgp_log.proofs.FitsLemmas.{nothing_ahead}
-pub use Rattle.pgp_log.proofs.GroupsLemmas.{same-self}
 pub use Rattle.pgp_log.proofs.LogLemmas.{front-legal, legal-checked, legal-counts, legal-induction, legal-last, legal-snoc}
-pub use Rattle.pgp_log.proofs.MarksLemmas.{ok-two}
-pub use Rattle.pgp_log.proofs.SharedLemmas.{map-next, next-front}
-pub use Rattle.pgp_log.proofs.TakeLemmas.{epoch-inc, epoch-other, faultless-inc, faultless-tree, fits-faultless, incs-inc, incs-other}
+pub use Rattle.pgp_log.proofs.SharedLemmas.{map-next, next-front, ok-two}
+pub use Rattle.pgp_log.proofs.TakeLemmas.{epoch-inc, epoch-other, faultless-inc, faultless-tree, fits-faultless, incs-inc, incs-other, same-self}
 pub use Rattle.pgp_log.proofs.TouchLemmas.{none-moved, turned-parts}
 pub use Rattle.pgp_log.specs.Fits.{entry_fault, fits, is_close, is_closed}
 pub use Rattle.pgp_log.specs.Log.{is_legal}
-pub use Rattle.pgp_log.specs.kept.MapBefore.{IsMapBefore}
+pub use Rattle.pgp_log.specs.MapBefore.{IsMapBefore}
 pub use Rattle.pgp_log.specs.RawSets.{IsRawSet}
 pub use Rattle.pgp_log.specs.ReportFault.{report_fault}
 pub use Rattle.pgp_log.specs.Touch.{moves_none}

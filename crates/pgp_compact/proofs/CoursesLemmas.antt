@@ -1,19 +1,13 @@
 -- What is kept of the groups that have reports, as entries are noted and maps follow.
-use Rattle.pgp_compact.proofs.Common.{AnyCode, AreCourses, AreNumbered, Bool, Bor, Course, Courses, EachIsCourse, Entry, GroupPlace, History, IfNone, IfSome, Incremental, Info, IsCourse, IsCourseIn, IsNext, IsReportOf, IsSameButCourse, IsSilent, IsUnderWay, LiesAt, List, Membership, None, Option, OsdMap, Past, PgId, PrimaryFacts, Report, Some, Span, [], any-same, ap, arith, begun, can_write, cases_Bool, cases_eq, code_of, comes-with_pool, cond, current_first-continues, current_first-ends, ended, enough_of, epoch, epoch-snoc, eq-is_same, false, filter, fold-append, front-checked, get-last, get-set_other, get-set_same, get_or, get_or_from_slice_get, group_history, has_group, has_group-grows, has_group-same, history-begins-made, history-current, history-grows, history-last, incs, info_of, infos-new, infos-other, infos-same, inl, inr, is_by_place, is_recorded, is_same, is_same-eq, is_same_group, is_some, last-checked, left-unmoved, length, lies-as-before, lies_on, map, map-append, map_fault, map_some, max, may_leave, may_lie_on, may_move, moves_none, nat_le, nat_lt, nat_tests, next_epoch, none-moved, not, numbered, past_intervals, past_intervals-continues, past_intervals-ends, pool, pool_membership, primary_facts, raw_set-stays, refl, report_of, reports-other, reports-same, same-self, same_group, set, slice_get, slice_get_within, span_of, started_by, stepped, subst, suc, sym, temp-same, then_with, true, true≢false, turned-parts, unmade, unmoved-unplaced, wants_clean, ℕ, ◌&&◌, ◌++◌, ◌||◌, ◌∙◌, ◌∷◌, ◌≡◌, ◌≢◌}
+use Rattle.pgp_compact.proofs.Common.{AnyCode, AreCourses, AreNumbered, Bool, Bor, Course, Courses, EachIsCourse, Entry, GroupPlace, History, IfNone, IfSome, Incremental, Info, IsCourse, IsCourseIn, IsNext, IsReportOf, IsSameButCourse, IsSilent, IsOnCourse, LiesAt, List, Membership, None, Option, OsdMap, Past, PgId, PrimaryFacts, Report, Some, Span, [], any-same, ap, arith, begun, can_write, cases_Bool, cases_eq, code_of, comes-with_pool, cond, current_first-continues, current_first-ends, ended, enough_of, epoch, epoch-snoc, eq-is_same, false, filter, fold-append, front-checked, get-last, get-set_other, get-set_same, get_or, get_or_from_slice_get, group_history, has_group, has_group-grows, has_group-same, history-begins-made, history-current, history-grows, history-last, incs, info_of, infos-new, infos-other, infos-same, inl, inr, is_by_place, is_recorded, is_same, is_same-eq, is_same_group, is_some, last-checked, left-unmoved, length, lies-as-before, lies_on, map, map-append, map_fault, map_some, max, may_leave, may_lie_on, may_move, moves_none, nat_le, nat_lt, nat_tests, next_epoch, none-moved, not, numbered, past_intervals, past_intervals-continues, past_intervals-ends, pool, pool_membership, primary_facts, raw_set-stays, refl, report_of, reports-other, reports-same, same-self, same_group, set, slice_get, slice_get_within, span_of, started_by, stepped, subst, suc, sym, temp-same, then_with, true, true≢false, turned-parts, unmade, unmoved-unplaced, wants_clean, ℕ, ◌&&◌, ◌++◌, ◌||◌, ◌∙◌, ◌∷◌, ◌≡◌, ◌≢◌}
 use Rattle.std.specs.HashMap as hash
 use Rattle.pgp_ids.specs.declared.entry.Entry.TheVariants as entry
 use Rattle.pgp_ids.specs.declared.pool.PoolSpec.{PoolSpec}
 
 -- ---- what a flag says
 
-pub never-written : (can recorded since : Bool) → can ≡ false → false ≡ (can && (not (can && (recorded || false)) || since))
-never-written can recorded since unable = grind (arith, nat_tests)
-
-pub never-recorded : (can recorded since : Bool) → can ≡ true → recorded ≡ false → true ≡ (can && (not (can && (recorded || false)) || since))
-never-recorded can recorded since able open' = grind (arith, nat_tests)
-
-pub was-recorded : (can recorded since : Bool) → can ≡ true → recorded ≡ true → since ≡ (can && (not (can && (recorded || false)) || since))
-was-recorded can recorded since able is = grind (arith, nat_tests)
+pub if-able : (can recorded since : Bool) → (can && (not recorded || since)) ≡ (can && (not (can && (recorded || false)) || since))
+if-able can recorded since = grind (arith, nat_tests, cases_Bool can, cases_Bool recorded)
 
 -- ---- a group that stays where it lies
 
@@ -30,7 +24,7 @@ lies-still incs inc pg place fine still lies =
     grind (arith, raw_set-stays, temp-same, lies-as-before incs inc pg fine still)
 
 -- what is kept of a group that is under way
-pub under-way : (incs : List Incremental) (course : Course) (place : GroupPlace) → course.place ≡ Some place → IsUnderWay incs course.pg course.les course.first course.spans.items place → IsCourse incs course
+pub under-way : (incs : List Incremental) (course : Course) (place : GroupPlace) → course.place ≡ Some place → IsOnCourse incs course.pg course.les course.first course.spans.items place → IsCourse incs course
 under-way incs course place is on = grind arith
 
 -- one interval more, if it passes
@@ -49,7 +43,7 @@ module _ (incs : List Incremental) (inc : Incremental) (after : OsdMap) (next : 
   counts = numbered incs (front-checked incs (inc ∷ []) next.checked)
 
   -- the group lies there by the map, on the same members: its interval goes on
-  pub stayed : (pg : PgId) (les first : ℕ) (spans : List Span) (place to : GroupPlace) → IsUnderWay incs pg les first spans place → LiesAt later pg to → is_same place.members to.members ≡ true → IsUnderWay later pg les first spans to
+  pub stayed : (pg : PgId) (les first : ℕ) (spans : List Span) (place to : GroupPlace) → IsOnCourse incs pg les first spans place → LiesAt later pg to → is_same place.members to.members ≡ true → IsOnCourse later pg les first spans to
   stayed pg les first spans place to is lies same =
       let h : History AnyCode = is.history in
       let facts : PrimaryFacts = primary_facts incs h.current.acting_primary in
@@ -65,9 +59,9 @@ module _ (incs : List Incremental) (inc : Incremental) (after : OsdMap) (next : 
       }
 
   -- on others: its interval ends
-  pub moved : (pg : PgId) (les first : ℕ) (spans : List Span) (place to : GroupPlace) (is : IsUnderWay incs pg les first spans place) → LiesAt later pg to → is_same place.members to.members ≡ false
+  pub moved : (pg : PgId) (les first : ℕ) (spans : List Span) (place to : GroupPlace) (is : IsOnCourse incs pg les first spans place) → LiesAt later pg to → is_same place.members to.members ≡ false
       → (after' : ℕ) (wanted : Bool) (spans' : List Span) → wanted ≡ wants_clean is.history.code les (ended incs is.history) → after' ≡ epoch later
-      → spans' ≡ cond wanted (spans ++ record { first = first; last = epoch incs } ∷ []) spans → IsUnderWay later pg les after' spans' to
+      → spans' ≡ cond wanted (spans ++ record { first = first; last = epoch incs } ∷ []) spans → IsOnCourse later pg les after' spans' to
   moved pg les first spans place to is lies differ after' wanted spans' wants starts are =
       let h : History AnyCode = is.history in
       let facts : PrimaryFacts = primary_facts incs h.current.acting_primary in
@@ -97,7 +91,7 @@ module _ (incs : List Incremental) (inc : Incremental) (after : OsdMap) (next : 
   }
 
   -- the group comes
-  pub begins : (pg : PgId) (les : ℕ) (place : GroupPlace) → has_group incs pg ≡ false → has_group later pg ≡ true → LiesAt later pg place → IsUnderWay later pg les (epoch later) [] place
+  pub begins : (pg : PgId) (les : ℕ) (place : GroupPlace) → has_group incs pg ≡ false → has_group later pg ≡ true → LiesAt later pg place → IsOnCourse later pg les (epoch later) [] place
   begins pg les place absent there lies =
       let m = map_some (pool_membership later pg) (pool later pg.pool) place.members lies.members_are in
       record {
@@ -121,7 +115,7 @@ module _ (incs : List Incremental) (inc : Incremental) (after : OsdMap) (next : 
       && (not (can_write (enough_of code) (is_by_place code) members && (is_recorded (primary_facts incs members.acting_primary) first || false)) || nat_le les last)
 
   -- whether clean epochs of its current interval can matter once that ends, by the pool that the next map has
-  pub wants-are : (pg : PgId) (les first : ℕ) (spans : List Span) (place : GroupPlace) (way : IsUnderWay incs pg les first spans place) (made : PoolSpec) → pool later pg.pool ≡ Some made
+  pub wants-are : (pg : PgId) (les first : ℕ) (spans : List Span) (place : GroupPlace) (way : IsOnCourse incs pg les first spans place) (made : PoolSpec) → pool later pg.pool ≡ Some made
       → wants_clean way.history.code les (ended incs way.history) ≡ wants_by les (code_of made.kind) place.members first (epoch incs)
   wants-are pg les first spans place way made pooled =
       let h : History AnyCode = way.history in

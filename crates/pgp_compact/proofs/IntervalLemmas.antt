@@ -1,6 +1,6 @@
 -- Intervals stay as the history goes on, and lie one after another.
-use Rattle.pgp_compact.proofs.Common.{AnyCode, Bool, Contains, GroupLog, HasReached, History, Incremental, LieApart, LieEndToEnd, List, Membership, Past, PgId, PrimaryFacts, Some, Span, [], along, ap, ap₂, are_checked, arith, cases_Bool, cases_lt, clean_spans, contains-any, contains-filter, contains-map, contains-push, current_span, current_state, ends_at, enough_of, filter, filter-contains, front-checked, get_or-range_with_len, get_or_append_left, get_or_default, get_or_push, group_history, history-grows, incs, inl, inr, is_by_place, is_within, last-checked, last_place, length-range_with_len, length_push, les, lie_end_to_end, list_any, list_any-append, map, map-contains, map_some, members_at-last_place, membership, nat_le, nat_tests, not, numbered, opening_of, opening_of-le, opening_of-opens, opening_of-stays, opens_at, or-true, past_ending, past_ends, past_intervals, past_of, past_spans, primary_facts, range_with_len, refl, span_of, state_at, stepped, subst, suc, sym, then_with, true, wants_clean, zero, ℕ, ◌&&◌, ◌++◌, ◌+◌, ◌<◌, ◌||◌, ◌∙◌, ◌∷◌, ◌≡◌, ◌≤◌, ◌⊎◌, range-contains}
-use Rattle.pgp_compact.proofs.SpanLemmas.{apart-lower}
+use Rattle.pgp_compact.proofs.Common.{AnyCode, Bool, Contains, GroupLog, HasReached, History, Incremental, LieEndToEnd, List, Membership, Past, PgId, PrimaryFacts, Some, Span, [], along, ap, ap₂, are_checked, arith, cases_Bool, cases_lt, clean_spans, contains-any, contains-filter, contains-map, contains-push, current_span, current_state, ends_at, enough_of, filter, filter-contains, front-checked, get_or-range_with_len, get_or_append_left, get_or_default, get_or_push, group_history, history-grows, incs, inl, inr, is_by_place, is_in_span, last-checked, last_place, length-range_with_len, length_push, les, lie_end_to_end, list_any, list_any-append, map, map-contains, map_some, members_at-last_place, membership, nat_le, nat_tests, not, numbered, opening_of, opening_of-le, opening_of-opens, opening_of-stays, opens_at, or-true, past_ending, past_ends, past_intervals, past_of, past_spans, primary_facts, range_with_len, refl, span_of, state_at, stepped, subst, suc, sym, then_with, true, wants_clean, zero, ℕ, ◌&&◌, ◌++◌, ◌+◌, ◌<◌, ◌||◌, ◌∙◌, ◌∷◌, ◌≡◌, ◌≤◌, ◌⊎◌, range-contains}
+use Rattle.pgp_compact.proofs.SpanLemmas.{LieApart, apart-lower}
 
 -- ---- a history that goes on
 
@@ -89,7 +89,7 @@ spans-are g span there = elim (contains-push (past_spans g.history (les g)) (cur
 pub record WasAmong (g : GroupLog) (after : History AnyCode) (last : ℕ) : Type 0 where
   pub span : Span
   pub there : (test : Span → Bool) → test span ≡ true → list_any test (clean_spans g) ≡ true
-  pub same : (epoch : ℕ) → HasReached g epoch → is_within epoch span ≡ is_within epoch (span_ending after last)
+  pub same : (epoch : ℕ) → HasReached g epoch → is_in_span epoch span ≡ is_in_span epoch (span_ending after last)
 
 -- where they can matter to a group that began to serve later, they can to one that began to serve earlier
 wanted-before : (can recorded : Bool) (less more last : ℕ) → less ≤ more → (can && (not recorded || nat_le more last)) ≡ true → (can && (not recorded || nat_le less last)) ≡ true
@@ -114,12 +114,12 @@ was-past g after on later rises last ends wants over =
       there = λ test passes.
           let some = contains-any test (past_spans h (les g)) (span_of p) kept passes in
           list_any-append test (past_spans h (les g)) (current_span h ∷ []) ∙ ap (λ b. b || list_any test (current_span h ∷ [])) some;
-      same = λ epoch known i. is_within epoch (record { first = sym on.first i + sym opens i; last = sym on.first i + last });
+      same = λ epoch known i. is_in_span epoch (record { first = sym on.first i + sym opens i; last = sym on.first i + last });
     }
 
 -- the interval that was current
 was-current : (g : GroupLog) (after : History AnyCode) → GoesOn g.history after → (last epoch : ℕ) → HasReached g epoch
-    → is_within epoch (span_ending after last) ≡ true → last_place g.history ≤ last → WasAmong g after last
+    → is_in_span epoch (span_ending after last) ≡ true → last_place g.history ≤ last → WasAmong g after last
 was-current g after on last epoch known within now =
     let h : History AnyCode = g.history in
     let low : opening_of after last ≤ last_place h = grind (arith, nat_tests, on.first) in
@@ -132,7 +132,7 @@ was-current g after on last epoch known within now =
 
 -- an interval in which clean epochs can matter later, of which an epoch was known
 pub was-among : (g : GroupLog) (after : History AnyCode) → GoesOn g.history after → (later : ℕ) → les g ≤ later → (last epoch : ℕ) → CanMatter after later last
-    → HasReached g epoch → is_within epoch (span_ending after last) ≡ true → WasAmong g after last
+    → HasReached g epoch → is_in_span epoch (span_ending after last) ≡ true → WasAmong g after last
 was-among g after on later rises last epoch matters known within = elim (cases_lt last (last_place g.history)) [
   | inl over ↦ elim matters [
     | inl current ↦ absurd (omega (arith, current, over, on.longer))

@@ -1,5 +1,5 @@
 -- What is kept of later reports says which earlier ones they make needless.
-use Rattle.pgp_compact.proofs.Common.{Bool, Entry, GroupLog, HashMap, Info, IsGreatestOf, List, LogEntry, None, Number, Opening, Option, PgId, Report, Some, Span, [], any-same, ap, ap₂, arith, cases_Bool, clean_in, clean_spans, epoch, false, filter, find, flat_map, get_or, group_history, group_in, group_with, has_number, incs_of, infos, infos_in, infos_of, is_clean_from, is_same_group, is_same_member, is_same_number, is_same_opening, is_same_sender, is_within, length, les, list_any, list_any-append, map, map_more, map_some, nat_eq, nat_le, nat_tests, not, number_of, numbers, opening_at, opening_in, option_and_then, option_map, option_map_or, reaches, refl, replaces, replaces_number, same_group, sender_of, sent, started, starts_as_late, sym, take, tells_last_clean, tells_last_of, true, within, written, ℕ, ◌&&◌, ◌++◌, ◌+◌, ◌<◌, ◌∙◌, ◌∷◌, ◌≡◌, map_none}
+use Rattle.pgp_compact.proofs.Common.{Bool, Entry, GroupLog, HashMap, Info, IsGreatestOf, List, LogEntry, None, Number, Opening, Option, PgId, Report, Some, Span, [], any-same, ap, ap₂, arith, cases_Bool, clean_in, clean_spans, epoch, false, filter, find, flat_map, get_or, group_history, group_in, group_with, has_number, incs_of, infos, infos_in, infos_of, is_clean_from, is_same_group, is_same_member, is_same_number, is_same_opening, is_same_sender, is_in_span, length, les, list_any, list_any-append, map, map_more, map_some, nat_eq, nat_le, nat_tests, not, write_number, numbers, opening_at, opening_in, option_and_then, option_map, option_map_or, reaches, refl, replaces, replaces_number, same_group, sender_of, sent, told_opening, starts_as_late, sym, take, tells_last_clean, tells_last_of, true, within, written, ℕ, ◌&&◌, ◌++◌, ◌+◌, ◌<◌, ◌∙◌, ◌∷◌, ◌≡◌, map_none}
 use Rattle.pgp_compact.proofs.IntervalLemmas.{spans-apart}
 use Rattle.pgp_compact.proofs.SpanLemmas.{any-holds, same-opening}
 
@@ -9,7 +9,7 @@ senders-are info [] = refl
 senders-are info (other ∷ xs) = grind (arith, nat_tests, senders-are info xs)
 
 pub starts-are : (info : Info) (xs : List Info)
-    → reaches is_same_group (map started xs) info.pg info.history_les ≡ list_any (starts_as_late info) (filter (λ other. is_same_group other.pg info.pg) xs)
+    → reaches is_same_group (map told_opening xs) info.pg info.history_les ≡ list_any (starts_as_late info) (filter (λ other. is_same_group other.pg info.pg) xs)
 starts-are info [] = refl
 starts-are info (other ∷ xs) = grind (arith, nat_tests, starts-are info xs)
 
@@ -24,21 +24,21 @@ noted-as pg other first epoch clean None = grind (arith, nat_tests)
 noted-as pg other first epoch clean (Some f) = grind (arith, nat_tests)
 
 -- an epoch of the interval opens as it does, and no other
-opens-here : (g : GroupLog) (epoch clean : ℕ) (span : Span) → find (is_within clean) (clean_spans g) ≡ Some span → option_map_or (λ f. nat_eq span.first f) (opening_in g epoch) false ≡ is_within epoch span
+opens-here : (g : GroupLog) (epoch clean : ℕ) (span : Span) → find (is_in_span clean) (clean_spans g) ≡ Some span → option_map_or (λ f. nat_eq span.first f) (opening_in g epoch) false ≡ is_in_span epoch span
 opens-here g epoch clean span found =
-    mapped-or (λ (s : Span). s.first) (nat_eq span.first) (find (is_within epoch) (clean_spans g))
+    mapped-or (λ (s : Span). s.first) (nat_eq span.first) (find (is_in_span epoch) (clean_spans g))
     ∙ same-opening g.history.first clean epoch (clean_spans g) span (spans-apart g.history (les g)) found
   where
     mapped-or : {X Y : Type 0} (f : X → Y) (test : Y → Bool) (o : Option X) → option_map_or test (option_map f o) false ≡ option_map_or (λ x. test (f x)) o false
     mapped-or f test None = refl
     mapped-or f test (Some x) = refl
 
-pub cleans-are : (log : List Entry) (pg : PgId) (g : GroupLog) (clean : ℕ) (span : Span) → group_in log pg ≡ Some g → find (is_within clean) (clean_spans g) ≡ Some span → (epoch : ℕ) (xs : List Info)
+pub cleans-are : (log : List Entry) (pg : PgId) (g : GroupLog) (clean : ℕ) (span : Span) → group_in log pg ≡ Some g → find (is_in_span clean) (clean_spans g) ≡ Some span → (epoch : ℕ) (xs : List Info)
     → reaches is_same_opening (flat_map (clean_in log) xs) (opening_at pg span.first) epoch ≡ list_any (is_clean_from span epoch) (filter (λ other. is_same_group other.pg pg) xs)
 cleans-are log pg g clean span there held epoch [] = refl
 cleans-are log pg g clean span there held epoch (other ∷ xs) =
     let found : Option ℕ = option_and_then (λ k. opening_in k other.last_epoch_clean) (group_in log other.pg) in
-    let here : is_same_group other.pg pg ≡ true → option_map_or (λ f. nat_eq span.first f) found false ≡ is_within other.last_epoch_clean span =
+    let here : is_same_group other.pg pg ≡ true → option_map_or (λ f. nat_eq span.first f) found false ≡ is_in_span other.last_epoch_clean span =
     λ same. rw (same_group other.pg pg same, there) (opens-here g other.last_epoch_clean clean span held) in
     let one = noted-as pg other.pg span.first epoch other.last_epoch_clean found in
     let rest = cleans-are log pg g clean span there held epoch xs in
@@ -51,16 +51,16 @@ both false b c = refl
 -- whether an info tells of the last clean epoch of the interval that holds that epoch
 tells-clean : (g : GroupLog) (later : List Info) (info : Info) → tells_last_clean g later info ≡ option_map_or
     (λ span. not (list_any (is_clean_from span (info.last_epoch_clean + 1)) (infos g)) && not (list_any (is_clean_from span info.last_epoch_clean) later))
-    (find (is_within info.last_epoch_clean) (clean_spans g)) false
+    (find (is_in_span info.last_epoch_clean) (clean_spans g)) false
 tells-clean g later info =
     let test : Span → Bool = λ span. not (list_any (is_clean_from span (info.last_epoch_clean + 1)) (infos g)) && not (list_any (is_clean_from span info.last_epoch_clean) later) in
-    any-same (tells_last_of g later info) (λ span. is_within info.last_epoch_clean span && test span) (clean_spans g)
-    (λ span. both (is_within info.last_epoch_clean span) (not (list_any (is_clean_from span (info.last_epoch_clean + 1)) (infos g))) (not (list_any (is_clean_from span info.last_epoch_clean) later)))
+    any-same (tells_last_of g later info) (λ span. is_in_span info.last_epoch_clean span && test span) (clean_spans g)
+    (λ span. both (is_in_span info.last_epoch_clean span) (not (list_any (is_clean_from span (info.last_epoch_clean + 1)) (infos g))) (not (list_any (is_clean_from span info.last_epoch_clean) later)))
     ∙ any-holds g.history.first info.last_epoch_clean test (clean_spans g) (spans-apart g.history (les g))
 
 pub tells-none : (g : GroupLog) (later : List Info) (info : Info) → opening_in g info.last_epoch_clean ≡ None → tells_last_clean g later info ≡ false
 tells-none g later info none =
-    let found : find (is_within info.last_epoch_clean) (clean_spans g) ≡ None = map_none (λ (s : Span). s.first) _ none in
+    let found : find (is_in_span info.last_epoch_clean) (clean_spans g) ≡ None = map_none (λ (s : Span). s.first) _ none in
     tells-clean g later info ∙ ap (λ (o : Option Span). option_map_or
     (λ span. not (list_any (is_clean_from span (info.last_epoch_clean + 1)) (infos g)) && not (list_any (is_clean_from span info.last_epoch_clean) later)) o false) found
 
@@ -71,7 +71,7 @@ pub tells-some : (log later : List Entry) (g : GroupLog) (info : Info) (first : 
     && not (reaches is_same_opening (flat_map (clean_in log) (infos_of later)) (opening_at info.pg first) info.last_epoch_clean))
 tells-some log later g info first there opened =
     let n : ℕ = info.last_epoch_clean in
-    let m = map_some (λ (s : Span). s.first) (find (is_within n) (clean_spans g)) first opened in
+    let m = map_some (λ (s : Span). s.first) (find (is_in_span n) (clean_spans g)) first opened in
     let span : Span = m.0 in
     let h = map_some (group_with log info.pg) (group_history (incs_of log) info.pg) g there in
     let told : infos_in info.pg log ≡ infos g = ap infos h.2 in
@@ -86,7 +86,7 @@ tells-some log later g info first there opened =
     ∙ sym (ap₂ (λ (a b : Bool). not a && not b) all some)
 
 abbrev numbered_as : Report → ℕ → Number × ℕ → Bool
-numbered_as report v it = is_same_number (number_of report v) it.0 && nat_le report.stamp it.1
+numbered_as report v it = is_same_number (write_number report v) it.0 && nat_le report.stamp it.1
 
 number-in : (report : Report) (v : ℕ) (other : Report) (entries : List LogEntry)
     → list_any (numbered_as report v) (map (written other) entries) ≡ (is_same_group other.pg report.pg && ((is_same_member other.member report.member && nat_le report.stamp other.stamp) && has_number v entries))
@@ -94,7 +94,7 @@ number-in report v other [] = grind arith
 number-in report v other (entry ∷ entries) = grind (arith, nat_tests, number-in report v other entries)
 
 pub numbers-are : (report : Report) (v : ℕ) (xs : List Report)
-    → reaches is_same_number (flat_map numbers xs) (number_of report v) report.stamp ≡ list_any (replaces_number report v) (filter (λ other. is_same_group other.pg report.pg) xs)
+    → reaches is_same_number (flat_map numbers xs) (write_number report v) report.stamp ≡ list_any (replaces_number report v) (filter (λ other. is_same_group other.pg report.pg) xs)
 numbers-are report v [] = refl
 numbers-are report v (other ∷ xs) = grind (arith, list_any-append, number-in report v other other.log, numbers-are report v xs)
 

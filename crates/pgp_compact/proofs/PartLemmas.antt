@@ -1,5 +1,5 @@
 -- What is left of a compacted log: its incrementals, and of the reports of a group those that say of it what all of them say,
-use Rattle.pgp_compact.proofs.Common.{AnyCode, Bool, Contains, Contains-here, Contains-later, Entry, GroupLog, History, Incremental, Info, List, LogEntry, Member, None, Option, PgId, Report, Some, Span, [], and_parts, any-contains, ap, append-nil, arith, by_number, cases_Bool, cases_lt, compacted, contains-any, counts_by, false, fold, fold-append, group_in, has_number, inc_of, incs, incs_of, info_of, infos, infos_in, inl, inr, is_clean_from, is_counted, is_needed, is_of, is_same_group, is_same_member, is_within, last_place, last_where, les, list_any, list_any-append, map, map-append, max, nat_eq, nat_le, nat_tests, needed_of, needs_info, needs_report, none-narrower, not, option_and_then, option_map_or, or-false, or-true, refl, replaces, replaces_number, report_of, reports_in, same_Some, same_group, same_member, starts_as_late, suc, sym, tells_last_clean, tells_last_of, true, true≢false, zero, ℕ, ◌&&◌, ◌++◌, ◌+◌, ◌<◌, ◌||◌, ◌∙◌, ◌∷◌, ◌≡◌, ◌≤◌}
+use Rattle.pgp_compact.proofs.Common.{AnyCode, Bool, Contains, Contains-here, Contains-later, Entry, GroupLog, History, Incremental, Info, List, LogEntry, Member, None, Option, PgId, Report, Some, Span, [], and_parts, any-contains, ap, append-nil, arith, by_number, cases_Bool, cases_lt, compacted, contains-any, counts_by, false, fold, fold-append, group_in, has_number, inc_of, incs, incs_of, info_of, infos, infos_in, inl, inr, is_clean_from, is_counted, is_needed, is_of, is_same_group, is_same_member, is_in_span, last_place, last_where, les, list_any, list_any-append, map, map-append, max, nat_eq, nat_le, nat_tests, needed_of, needs_info, needs_report, none-narrower, not, option_and_then, option_map_or, or-false, or-true, refl, replaces, replaces_number, report_of, reports_in, same_Some, same_group, same_member, starts_as_late, suc, sym, tells_last_clean, tells_last_of, true, true≢false, zero, ℕ, ◌&&◌, ◌++◌, ◌+◌, ◌<◌, ◌||◌, ◌∙◌, ◌∷◌, ◌≡◌, ◌≤◌}
 use Rattle.pgp_compact.proofs.IntervalLemmas.{CanMatter, GoesOn, span_ending, was-among}
 use Rattle.pgp_compact.proofs.NeededLemmas.{NeedsLast, needed-any, needed-last, needed-none, needed-part, needed-whole}
 use Rattle.pgp_compact.proofs.NumberLemmas.{AlikeByNumber, by_number-same, entries_in, has, last-number}
@@ -99,7 +99,7 @@ abbrev tells_of : List Incremental → History AnyCode → Member → ℕ → Re
 tells_of incs after member v report = is_told incs after member report && has_number v report.log
 
 -- it tells of as late a clean epoch of the same interval
-pub as-clean : (a b : Span) (n m : ℕ) (info : Info) → is_within info.last_epoch_clean a ≡ is_within info.last_epoch_clean b → m ≤ n → is_clean_from a n info ≡ true → is_clean_from b m info ≡ true
+pub as-clean : (a b : Span) (n m : ℕ) (info : Info) → is_in_span info.last_epoch_clean a ≡ is_in_span info.last_epoch_clean b → m ≤ n → is_clean_from a n info ≡ true → is_clean_from b m info ≡ true
 as-clean a b n m info same below clean = grind (arith, nat_tests)
 
 none-each : {X : Type 0} (test : X → Bool) (xs : List X) → ((x : X) → Contains xs x → test x ≡ false) → list_any test xs ≡ false
@@ -142,10 +142,10 @@ module _ (incs : List Incremental) (after : History AnyCode) (later epoch : ℕ)
     clean-needed most None before told all none_more rest info known each clean none = refl
     clean-needed most (Some g) before told all none_more rest info known each clean none =
         let b = before g refl in
-        let c = and_parts (is_within info.last_epoch_clean (span_ending after last)) (nat_le most info.last_epoch_clean) clean in
+        let c = and_parts (is_in_span info.last_epoch_clean (span_ending after last)) (nat_le most info.last_epoch_clean) clean in
         let low : most ≤ info.last_epoch_clean = grind (arith, nat_tests, c.1) in
         let w = was-among g after b.on later b.starts last info.last_epoch_clean matters (omega (arith, known, b.known)) c.0 in
-        let here : is_within info.last_epoch_clean w.span ≡ true = w.same info.last_epoch_clean (omega (arith, known, b.known)) ∙ c.0 in
+        let here : is_in_span info.last_epoch_clean w.span ≡ true = w.same info.last_epoch_clean (omega (arith, known, b.known)) ∙ c.0 in
         let no_later : list_any (is_clean_from w.span (info.last_epoch_clean + 1)) (infos g) ≡ false =
         ap (list_any (is_clean_from w.span (info.last_epoch_clean + 1))) (all.are g refl)
         ∙ none-among (is_clean_from w.span (info.last_epoch_clean + 1)) (is_clean_from (span_ending after last) (most + 1)) told

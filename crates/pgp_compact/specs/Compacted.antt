@@ -18,9 +18,10 @@ use Rattle.pgp_interval.specs.ReadWrite.{can_write}
 use Rattle.pgp_interval.specs.Runs.{current_first, past_intervals}
 use Rattle.pgp_map.specs.Pools.{is_same_group}
 use Rattle.pgp_missing.specs.Log.{has_number}
-use Rattle.pgp_group.specs.Entries.{infos_of, reports_of}
+use Rattle.pgp_group.specs.Entries.{reports_of}
 use Rattle.pgp_group.specs.GroupLog.{GroupLog, group_in, infos}
 use Rattle.pgp_group.specs.Heard.{is_counted, les}
+use Rattle.pgp_reasons.specs.Reported.{infos_in}
 use Rattle.pgp_compact.specs.Needed.{are_needed, needed_of}
 use Rattle.pgp_compact.specs.declared.span.Span.{Span}
 
@@ -65,17 +66,17 @@ current_span h = record { first = current_first h; last = h.first + last_place h
 abbrev pub clean_spans : GroupLog → List Span
 clean_spans g = past_spans g.history (les g) ++ current_span g.history ∷ []
 
-abbrev pub is_within : ℕ → Span → Bool
-is_within epoch span = nat_le span.first epoch && nat_le epoch span.last
+abbrev pub is_in_span : ℕ → Span → Bool
+is_in_span epoch span = nat_le span.first epoch && nat_le epoch span.last
 
 -- by the info the group was clean in the interval, in this epoch of it or later
 abbrev pub is_clean_from : Span → ℕ → Info → Bool
-is_clean_from span epoch info = is_within info.last_epoch_clean span && nat_le epoch info.last_epoch_clean
+is_clean_from span epoch info = is_in_span info.last_epoch_clean span && nat_le epoch info.last_epoch_clean
 
 -- it tells of the last clean epoch of the interval: no info of the group tells of a later one, and no later info of the same
 abbrev pub tells_last_of : GroupLog → List Info → Info → Span → Bool
 tells_last_of g later info span =
-    is_within info.last_epoch_clean span
+    is_in_span info.last_epoch_clean span
     && not (list_any (is_clean_from span (info.last_epoch_clean + 1)) (infos g))
     && not (list_any (is_clean_from span info.last_epoch_clean) later)
 
@@ -103,10 +104,7 @@ needs_report g later report =
 
 -- ---- the log
 
--- the infos of the group among these entries, and its reports of log entries
-abbrev pub infos_in : PgId → List Entry → List Info
-infos_in pg entries = filter (λ info. is_same_group info.pg pg) (infos_of entries)
-
+-- the group's reports of log entries among these entries
 abbrev pub reports_in : PgId → List Entry → List Report
 reports_in pg entries = filter (λ report. is_same_group report.pg pg) (reports_of entries)
 

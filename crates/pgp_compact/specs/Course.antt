@@ -46,7 +46,7 @@ may_leave place pg inc =
 
 -- the map of these incrementals has the group, which lies so, whose current interval began in this epoch, and in these past
 -- intervals of which clean epochs can matter, where it last began to serve in the epoch `les`
-pub record IsUnderWay (incs : List Incremental) (pg : PgId) (les first : ℕ) (spans : List Span) (place : GroupPlace) : Type 0 where
+pub record IsOnCourse (incs : List Incremental) (pg : PgId) (les first : ℕ) (spans : List Span) (place : GroupPlace) : Type 0 where
   pub history : History AnyCode
   pub history_is : group_history incs pg ≡ Some history
   pub first_is : first ≡ current_first history
@@ -57,7 +57,7 @@ pub record IsUnderWay (incs : List Incremental) (pg : PgId) (les first : ℕ) (s
 pub record IsCourse (incs : List Incremental) (course : Course) : Type 0 where
   pub absent : course.place ≡ None → has_group incs course.pg ≡ false
   pub unbegun : course.place ≡ None → course.spans.items ≡ []
-  pub there : (place : GroupPlace) → course.place ≡ Some place → IsUnderWay incs course.pg course.les course.first course.spans.items place
+  pub there : (place : GroupPlace) → course.place ≡ Some place → IsOnCourse incs course.pg course.les course.first course.spans.items place
 
 -- the group's current interval as a past one, where the next map ends it
 abbrev pub ended : List Incremental → History AnyCode → Past

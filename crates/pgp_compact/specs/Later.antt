@@ -36,8 +36,8 @@ sender_of info = record { pg = info.pg; osd = info.member.osd; slot = info.membe
 abbrev pub sent : Info → Sender × ℕ
 sent info = (sender_of info, info.stamp)
 
-abbrev pub started : Info → PgId × ℕ
-started info = (info.pg, info.history_les)
+abbrev pub told_opening : Info → PgId × ℕ
+told_opening info = (info.pg, info.history_les)
 
 abbrev pub opening_at : PgId → ℕ → Opening
 opening_at pg first = record { pg = pg; first = first }
@@ -52,11 +52,11 @@ clean_in log info =
 abbrev pub AreLastCleans : {S : Type 0} → List Entry → List Entry → HashMap Opening ℕ S → Type 0
 AreLastCleans log entries table = IsGreatestOf is_same_opening (flat_map (clean_in log) (infos_of entries)) table
 
-abbrev pub number_of : Report → ℕ → Number
-number_of report v = record { pg = report.pg; osd = report.member.osd; slot = report.member.slot; v = v }
+abbrev pub write_number : Report → ℕ → Number
+write_number report v = record { pg = report.pg; osd = report.member.osd; slot = report.member.slot; v = v }
 
 abbrev pub written : Report → LogEntry → Number × ℕ
-written report entry = (number_of report entry.version.v, report.stamp)
+written report entry = (write_number report entry.version.v, report.stamp)
 
 abbrev pub numbers : Report → List (Number × ℕ)
 numbers report = map (written report) report.log
@@ -68,7 +68,7 @@ numbers report = map (written report) report.log
 -- number of each member
 pub record IsLater (log later : List Entry) (kept : Later) : Type 0 where
   pub senders : IsGreatestOf is_same_sender (map sent (infos_of later)) kept.senders.table
-  pub starts : IsGreatestOf is_same_group (map started (infos_of later)) kept.starts.table
+  pub starts : IsGreatestOf is_same_group (map told_opening (infos_of later)) kept.starts.table
   pub cleans : AreLastCleans log later kept.cleans.table
   pub all_cleans : AreLastCleans log log kept.all_cleans.table
   pub numbers : IsGreatestOf is_same_number (flat_map numbers (reports_of later)) kept.numbers.table

@@ -1,6 +1,5 @@
 pub mod Needed
 pub mod Compacted
-pub mod Spans
 pub mod Greatest
 pub mod Standing
 pub mod Course

@@ -4,12 +4,12 @@ use Rattle.pgp_interval.specs.History.{last_place}
 use Rattle.pgp_interval.specs.Runs.{current_first}
 use Rattle.pgp_group.specs.GroupLog.{GroupLog}
 use Rattle.pgp_group.specs.Heard.{les}
-use Rattle.pgp_compact.specs.Compacted.{clean_spans, is_within}
+use Rattle.pgp_compact.specs.Compacted.{clean_spans, is_in_span}
 use Rattle.pgp_compact.specs.declared.standing.Standing.{Standing}
 
 -- the first epoch of the group's interval that holds this epoch, where clean epochs of it can matter
 abbrev pub opening_in : GroupLog → ℕ → Option ℕ
-opening_in g epoch = option_map (λ span. span.first) (find (is_within epoch) (clean_spans g))
+opening_in g epoch = option_map (λ span. span.first) (find (is_in_span epoch) (clean_spans g))
 
 -- the log has reached the epoch
 abbrev pub HasReached : GroupLog → ℕ → Type 0

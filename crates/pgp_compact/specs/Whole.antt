@@ -8,7 +8,7 @@ use Rattle.pgp_compact.specs.Courses.{AreCourses}
 use Rattle.pgp_compact.specs.declared.whole.Whole.{Whole}
 
 -- of a log, of which these entries were read for their maps: the last of these, and the groups that have reports
-pub record HasRead (log front : List Entry) (whole : Whole) : Type 0 where
+pub record HasReadFront (log front : List Entry) (whole : Whole) : Type 0 where
   pub map_is : IsMapOf (incs_of front) whole.map
   pub courses_are : AreCourses (incs_of front) log whole.courses
 
@@ -17,9 +17,9 @@ pub record CanRead (whole : Whole) (next : Entry) : Type 0 where
   pub log : List Entry
   pub front : List Entry
   pub legal : is_legal (front ++ next ∷ []) ≡ true
-  pub is : HasRead log front whole
+  pub is : HasReadFront log front whole
 
 -- all entries of the legal log were read
-pub record IsWhole (log : List Entry) (whole : Whole) : Type 0 where
+pub record IsReadWhole (log : List Entry) (whole : Whole) : Type 0 where
   pub legal : is_legal log ≡ true
-  pub read : HasRead log log whole
+  pub read : HasReadFront log log whole

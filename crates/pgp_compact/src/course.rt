@@ -1,6 +1,6 @@
 //! The intervals of a group.
 
-ghost use Rattle.std.specs.Prelude.{◌≡◌, ◌≤◌, ℕ, [], List, Some, None, true, false, find, max, option_map, OnOk};
+ghost use Rattle.std.specs.Prelude.{◌≡◌, ◌≤◌, ◌&&◌, ◌||◌, [], List, not, Some, None, true, false, find, max, option_map, OnOk};
 ghost use Rattle.pgp_code.specs.AnyCode.{enough_of, is_by_place};
 ghost use Rattle.pgp_ids.specs.declared.entry.Entry.{Entry as AnyEntry};
 ghost use Rattle.pgp_ids.specs.declared.incremental.Incremental.{Incremental as AnyIncremental};
@@ -14,11 +14,10 @@ ghost use Rattle.pgp_group.specs.GroupLog.{GroupLog, group_in};
 ghost use Rattle.pgp_group.specs.Heard.{les};
 ghost use Rattle.pgp_log.specs.Locate.{IsCheckedMap};
 ghost use Rattle.pgp_log.specs.Log.{is_legal};
-ghost use Rattle.pgp_log.specs.kept.MapBefore.{IsMapBefore};
-ghost use Rattle.pgp_compact.specs.Compacted.{is_within, past_spans, wants_clean};
-ghost use Rattle.pgp_compact.specs.Course.{IsCourse, IsNext, IsUnderWay, CanGoOn, LiesAt, ended};
+ghost use Rattle.pgp_log.specs.MapBefore.{IsMapBefore};
+ghost use Rattle.pgp_compact.specs.Compacted.{is_in_span, past_spans, wants_clean};
+ghost use Rattle.pgp_compact.specs.Course.{IsCourse, IsNext, IsOnCourse, CanGoOn, LiesAt, ended};
 ghost use Rattle.pgp_compact.specs.Courses.{started_by};
-ghost use Rattle.pgp_compact.specs.Spans.{LieApart};
 ghost use Rattle.pgp_compact.specs.Standing.{HasReached, opening_in, standing_at};
 ghost use Rattle.pgp_compact.specs.declared.group_place.GroupPlace.{GroupPlace as AnyPlace};
 
@@ -128,7 +127,7 @@ impl Course {
     fn wants_clean(&self, before: &MapBefore, after: &OsdMap) -> bool
         ensures { (incs : List AnyIncremental) (inc : AnyIncremental) (place : AnyPlace) → IsNext incs inc after.now
             → IsMapBefore incs inc before.now → self.now.place ≡ Some place
-            → (way : IsUnderWay incs self.now.pg self.now.les self.now.first self.now.spans.items place)
+            → (way : IsOnCourse incs self.now.pg self.now.les self.now.first self.now.spans.items place)
             → result ≡ wants_clean way.history.code self.now.les (ended incs way.history) }
     {
         let Some(place) = &self.place else {
@@ -137,11 +136,13 @@ impl Course {
         let Some(pool) = after.pool(self.pg.pool) else {
             return true;
         };
-        if !can_write(&AnyCode::of_pool(pool.kind), &place.members) {
-            return false;
-        }
+        let can = can_write(&AnyCode::of_pool(pool.kind), &place.members);
         let facts = before.facts(after, place.members.acting_primary);
-        !is_recorded(facts, self.first) || self.les <= before.epoch
+        can_matter(
+            can,
+            is_recorded(facts, self.first),
+            self.les <= before.epoch,
+        )
     }
 
     /// The group's life begins, if this map has the group. The map before didn't have it.
@@ -190,18 +191,22 @@ impl Course {
 
 /// The first epoch of the one of these intervals that holds the epoch, if one does.
 fn opening(spans: &[Span], epoch: Epoch) -> Option<Epoch>
-    ensures { (from : ℕ) → LieApart from spans.now → result ≡ option_map (λ span. span.first) (find (is_within epoch) spans.now) }
+    ensures { result ≡ option_map (λ span. span.first) (find (is_in_span epoch) spans.now) }
 {
-    let after = spans.partition_point(|span| span.first <= epoch);
-    if after == 0 {
-        return None;
+    for span in spans {
+        if span.holds(epoch) {
+            return Some(span.first);
+        }
     }
-    let span = spans[after - 1];
-    if epoch <= span.last {
-        Some(span.first)
-    } else {
-        None
-    }
+    None
+}
+
+/// Whether clean epochs of an interval can matter: its members could serve writes, and either no map records that they may have
+/// done so, or it ended no earlier than the group last began to serve.
+fn can_matter(can: bool, is_recorded: bool, is_late: bool) -> bool
+    ensures { result ≡ (can && (not is_recorded || is_late)) }
+{
+    can && (!is_recorded || is_late)
 }
 
 /// Whether a group of this code can serve writes with these members.

@@ -5,14 +5,14 @@ ghost use Rattle.std.specs.Prelude.{◌≡◌, ◌||◌, List};
 ghost use Rattle.pgp_ids.specs.declared.incremental.Incremental.{Incremental as AnyIncremental};
 ghost use Rattle.pgp_map.specs.Held.{HasGroup};
 ghost use Rattle.pgp_map.specs.MapFault.{then_with};
-ghost use Rattle.pgp_map.specs.MapOf.{IsMapOf};
+ghost use Rattle.pgp_map.specs.MapOf.{Says};
 ghost use Rattle.pgp_log.specs.RawSets.{IsRawSet};
 ghost use Rattle.pgp_compact.specs.Course.{LiesAt, IsNext, lies_on, may_leave};
 
 use pgp_ids::{Incremental, Membership, OsdId, Osds, PgId};
-use pgp_log::{changes_temp, has_osd, moves};
+use pgp_log::{changes_temp, moves};
 use pgp_map::OsdMap;
-use pgp_sets::{filter, raw};
+use pgp_sets::{filter, has_osd, raw};
 
 /// Where a group lies by a map, and on what that depends.
 #[derive(Drop)]
@@ -28,7 +28,7 @@ impl GroupPlace {
     /// Where the group lies by the map. It takes no memory.
     pub(crate) fn at(map: &OsdMap, pg: &PgId) -> Self
         requires { HasGroup map.now pg.now }
-        ensures { (incs : List AnyIncremental) → IsMapOf incs map.now → LiesAt incs pg.now result }
+        ensures { Says map.now (λ incs. LiesAt incs pg.now result) }
     {
         GroupPlace::on(map, pg, raw(map, pg))
     }
@@ -36,7 +36,7 @@ impl GroupPlace {
     /// Where the group lies by the map, whose tree puts it on these places.
     fn on(map: &OsdMap, pg: &PgId, raw: Osds) -> Self
         requires { HasGroup map.now pg.now }
-        ensures { (incs : List AnyIncremental) → IsMapOf incs map.now → IsRawSet incs pg.now raw → LiesAt incs pg.now result }
+        ensures { Says map.now (λ incs. IsRawSet incs pg.now raw → LiesAt incs pg.now result) }
     {
         let members = filter(map, pg, &raw);
         GroupPlace {

@@ -7,8 +7,9 @@ ghost use Rattle.pgp_ids.specs.declared.entry.Entry.TheVariants as entry;
 ghost use Rattle.pgp_group.specs.GroupLog.{GroupLog, group_in};
 ghost use Rattle.pgp_group.specs.Heard.{les, is_counted};
 ghost use Rattle.pgp_group.specs.Present.{IsPresent};
-ghost use Rattle.pgp_compact.specs.Compacted.{infos_in, reports_in, may_be_heard, tells_last_start, tells_last_clean, needs_info, needs_report, replaces_number};
-ghost use Rattle.pgp_compact.specs.Later.{AreLastCleans, IsLater, sender_of, opening_at, number_of};
+ghost use Rattle.pgp_reasons.specs.Reported.{infos_in};
+ghost use Rattle.pgp_compact.specs.Compacted.{reports_in, may_be_heard, tells_last_start, tells_last_clean, needs_info, needs_report, replaces_number};
+ghost use Rattle.pgp_compact.specs.Later.{AreLastCleans, IsLater, sender_of, opening_at, write_number};
 ghost use Rattle.pgp_compact.specs.Standing.{standing_at, opening_in};
 
 use super::greatest::Greatest;
@@ -209,7 +210,7 @@ fn opening_at(pg: PgId, first: Epoch) -> Opening
 
 /// The number of the entry, of the member that sent the report.
 fn number_of(report: &Report, entry: &LogEntry) -> Number
-    ensures { result ≡ number_of report.now entry.now.version.v }
+    ensures { result ≡ write_number report.now entry.now.version.v }
 {
     Number {
         pg: report.pg,

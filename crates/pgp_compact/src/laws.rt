@@ -1,6 +1,6 @@
 //! What holds of a compacted log: every answer is that of the whole one, whatever entries follow.
 
-ghost use Rattle.std.specs.Prelude.{◌≡◌, ◌≢◌, ◌<◌, ◌≤◌, ◌++◌, List, Some, None, true, false, length, option_map};
+ghost use Rattle.std.specs.Prelude.{◌≡◌, ◌≢◌, ◌<◌, ◌≤◌, ◌++◌, ℕ, List, Some, None, true, false, length, option_map};
 ghost use Rattle.pgp_ids.specs.declared.entry.Entry.{Entry};
 ghost use Rattle.pgp_ids.specs.declared.pg_id.PgId.{PgId};
 ghost use Rattle.pgp_ids.specs.declared.refusal.Refusal.TheVariants.{LogFull};
@@ -11,6 +11,7 @@ ghost use Rattle.pgp_group.specs.Interleaving.{with_count};
 ghost use Rattle.pgp_group.specs.View.{scratch};
 ghost use Rattle.pgp_log.specs.Fits.{entry_fault, fits, is_closed, longest_log};
 ghost use Rattle.pgp_log.specs.Log.{is_legal};
+ghost use Rattle.pgp_reasons.specs.Price.{price};
 ghost use Rattle.pgp_reasons.specs.Reasons.{AreReasons};
 ghost use Rattle.pgp_reasons.specs.declared.reasons.Reasons.{Reasons};
 ghost use Rattle.pgp_compact.specs.Compacted.{compacted};
@@ -43,8 +44,9 @@ pub fn every_answer_is_the_same()
 
 /// What is said of why a group doesn't serve, and of what would bring it back, is the same in every field by the log and by the
 /// compacted one, now and after whatever entries follow, of which each incremental was checked when it came: whom it has heard, the
-/// intervals that block it, with the last clean epoch of each, the smallest sets of devices that bring it back, what its acting set
-/// lacks, and the writes that the best copy's log lacks.
+/// intervals that block it, with the last clean epoch of each, the smallest sets of devices that bring it back, the last interval in
+/// which it was clean, the copies that may be followed, what its acting set lacks, and the writes that the best copy's log lacks. So is
+/// what it costs to boot some devices and to declare others lost.
 pub fn every_reason_is_the_same()
     ensures kept { (log more : List Entry) (pg : PgId) (whole less : GroupLog) (reasons : Reasons) → is_legal log ≡ true
         → are_checked (incs_of (log ++ more)) ≡ true → group_in (log ++ more) pg ≡ Some whole → group_in (compacted log ++ more) pg ≡ Some less
@@ -52,6 +54,9 @@ pub fn every_reason_is_the_same()
     ensures told { (log more : List Entry) (pg : PgId) (whole less : GroupLog) (reasons : Reasons) → is_legal log ≡ true
         → are_checked (incs_of (log ++ more)) ≡ true → group_in (log ++ more) pg ≡ Some whole → group_in (compacted log ++ more) pg ≡ Some less
         → AreReasons less reasons → AreReasons whole reasons }
+    ensures price { (log more : List Entry) (pg : PgId) (whole less : GroupLog) (starts losses : List ℕ) → is_legal log ≡ true
+        → are_checked (incs_of (log ++ more)) ≡ true → group_in (log ++ more) pg ≡ Some whole → group_in (compacted log ++ more) pg ≡ Some less
+        → price starts losses less ≡ price starts losses whole }
 {
     what_does_not_count_never_counts_again();
 }

@@ -13,7 +13,7 @@ ghost use Rattle.pgp_compact.specs.Compacted.{is_needed};
 ghost use Rattle.pgp_compact.specs.Courses.{HasReport};
 ghost use Rattle.pgp_compact.specs.Later.{AreLastCleans, IsLater};
 ghost use Rattle.pgp_compact.specs.Standing.{standing_at};
-ghost use Rattle.pgp_compact.specs.Whole.{IsWhole, HasRead, CanRead};
+ghost use Rattle.pgp_compact.specs.Whole.{IsReadWhole, HasReadFront, CanRead};
 
 use super::courses::Courses;
 use super::greatest::Greatest;
@@ -42,7 +42,7 @@ impl Whole {
     /// Reads all of this log. It goes over the log twice: once for the groups that have reports, and once for where these lie.
     pub(crate) fn of(alloc: Global, entries: &[Arc<Entry>]) -> Result<Self, AllocError>
         requires { is_legal (map arc_value entries.now) ≡ true }
-        ensures { IfOk result (λ whole. IsWhole (map arc_value entries.now) whole) }
+        ensures { IfOk result (λ whole. IsReadWhole (map arc_value entries.now) whole) }
     {
         let mut whole = Whole {
             map: OsdMap::empty(alloc),
@@ -57,8 +57,8 @@ impl Whole {
     /// Reads the next entry of the log, for its map. After an `Err` the value must not be used again.
     fn read(&mut self, alloc: Global, entry: &Entry) -> Result<(), AllocError>
         requires { CanRead self.old entry.now }
-        ensures { OnOk result ((log front : List AnyEntry) → is_legal (front ++ entry.now ∷ []) ≡ true → HasRead log front self.old
-            → HasRead log (front ++ entry.now ∷ []) self.new) }
+        ensures { OnOk result ((log front : List AnyEntry) → is_legal (front ++ entry.now ∷ []) ≡ true → HasReadFront log front self.old
+            → HasReadFront log (front ++ entry.now ∷ []) self.new) }
     {
         match entry {
             Entry::Inc(inc) => {
@@ -79,7 +79,7 @@ impl Whole {
         alloc: Global,
         entries: &[Arc<Entry>],
     ) -> Result<Greatest<Opening>, AllocError>
-        requires { IsWhole (map arc_value entries.now) self.now }
+        requires { IsReadWhole (map arc_value entries.now) self.now }
         ensures { IfOk result (λ cleans. AreLastCleans (map arc_value entries.now) (map arc_value entries.now) cleans.table) }
     {
         let mut cleans = Greatest::new(alloc);
@@ -92,7 +92,7 @@ impl Whole {
 
     /// Notes the clean epoch of which the entry of the log tells, if it can matter, beside those of the entries after it.
     fn note_clean(&self, cleans: &mut Greatest<Opening>, entry: &Entry) -> Result<(), AllocError>
-        ensures { OnOk result ((log later : List AnyEntry) → IsWhole log self.now → Contains log entry.now
+        ensures { OnOk result ((log later : List AnyEntry) → IsReadWhole log self.now → Contains log entry.now
             → AreLastCleans log later cleans.old.table → AreLastCleans log (entry.now ∷ later) cleans.new.table) }
     {
         let Entry::Info(info) = entry else {
@@ -107,9 +107,9 @@ impl Whole {
     /// Whether the entry of the log stays, where `later` has taken note of those after it. `later` then takes note
     /// of this entry too.
     pub(crate) fn needs(&self, later: &mut Later, entry: &Entry) -> Result<bool, AllocError>
-        ensures needed { IfOk result (λ needed. (log done : List AnyEntry) → IsWhole log self.now → IsLater log done later.old
+        ensures needed { IfOk result (λ needed. (log done : List AnyEntry) → IsReadWhole log self.now → IsLater log done later.old
             → Contains log entry.now → needed ≡ is_needed log done entry.now) }
-        ensures noted { IfOk result (λ needed. (log done : List AnyEntry) → IsWhole log self.now → IsLater log done later.old
+        ensures noted { IfOk result (λ needed. (log done : List AnyEntry) → IsReadWhole log self.now → IsLater log done later.old
             → Contains log entry.now → IsLater log (entry.now ∷ done) later.new) }
     {
         match entry {
@@ -121,9 +121,9 @@ impl Whole {
     }
 
     fn needs_info(&self, later: &mut Later, info: &Info) -> Result<bool, AllocError>
-        ensures needed { IfOk result (λ needed. (log done : List AnyEntry) → IsWhole log self.now → IsLater log done later.old
+        ensures needed { IfOk result (λ needed. (log done : List AnyEntry) → IsReadWhole log self.now → IsLater log done later.old
             → Contains log (entry.Info info.now) → needed ≡ is_needed log done (entry.Info info.now)) }
-        ensures noted { IfOk result (λ needed. (log done : List AnyEntry) → IsWhole log self.now → IsLater log done later.old
+        ensures noted { IfOk result (λ needed. (log done : List AnyEntry) → IsReadWhole log self.now → IsLater log done later.old
             → Contains log (entry.Info info.now) → IsLater log (entry.Info info.now ∷ done) later.new) }
     {
         match self.standing(&info.pg, info.last_epoch_clean) {
@@ -140,9 +140,9 @@ impl Whole {
     }
 
     fn needs_report(&self, later: &mut Later, report: &Report) -> Result<bool, AllocError>
-        ensures needed { IfOk result (λ needed. (log done : List AnyEntry) → IsWhole log self.now → IsLater log done later.old
+        ensures needed { IfOk result (λ needed. (log done : List AnyEntry) → IsReadWhole log self.now → IsLater log done later.old
             → Contains log (entry.Entries report.now) → needed ≡ is_needed log done (entry.Entries report.now)) }
-        ensures noted { IfOk result (λ needed. (log done : List AnyEntry) → IsWhole log self.now → IsLater log done later.old
+        ensures noted { IfOk result (λ needed. (log done : List AnyEntry) → IsReadWhole log self.now → IsLater log done later.old
             → IsLater log (entry.Entries report.now ∷ done) later.new) }
     {
         match self.standing(&report.pg, Epoch::new(0)) {
@@ -161,7 +161,7 @@ impl Whole {
     /// What the log says of the group, of which it has a report, and which of its intervals holds the epoch `clean`, which the log
     /// has reached.
     fn standing(&self, pg: &PgId, clean: Epoch) -> Option<Standing>
-        ensures { (log : List AnyEntry) → IsWhole log self.now → HasReport log pg.now → clean ≤ epoch (incs_of log)
+        ensures { (log : List AnyEntry) → IsReadWhole log self.now → HasReport log pg.now → clean ≤ epoch (incs_of log)
             → result ≡ option_map (standing_at clean) (group_in log pg.now) }
     {
         let course = self.courses.get(pg)?;

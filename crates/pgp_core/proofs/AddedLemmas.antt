@@ -3,14 +3,16 @@ use Rattle.std.proofs.Common.{◌≡◌, ℕ, List, [], ◌∷◌, ◌++◌, Boo
 use Rattle.std.proofs.lemmas.Bool.{cases_Bool}
 use Rattle.pgp_ids.specs.declared.entry.Entry.{Entry}
 use Rattle.pgp_ids.specs.declared.refusal.Refusal.{Refusal}
-use Rattle.pgp_text.specs.Command.{command_of}
-use Rattle.pgp_text.specs.LineFault.{LineFault}
-use Rattle.pgp_text.specs.Commands.{Command, Format, Submit, Ask, Locate, Trace}
+use Rattle.pgp_lines.specs.Command.{command_of}
+use Rattle.pgp_lines.specs.LineFault.{LineFault}
+use Rattle.pgp_lines.specs.declared.command.Command.{Command}
+use Rattle.pgp_lines.specs.declared.command.Command.TheVariants.{Submit, Ask, Locate, Trace}
+use Rattle.pgp_lines.specs.declared.command.format.Format.{Format}
 use Rattle.pgp_log.specs.Fits.{fits}
 use Rattle.pgp_log.specs.Log.{is_legal}
 use Rattle.pgp_log.proofs.LogLemmas.{legal-snoc}
-use Rattle.pgp_core.specs.Added.{EntryLine, added_by, entries_of, entry_line, entry_lines, taken_by, taken_from, with_added}
-use Rattle.pgp_core.specs.Answer.{log_of, log_with}
+use Rattle.pgp_core.specs.Added.{EntryLine, added_by, entries_of_lines, entry_line, entry_lines, taken_of_read, taken_from, with_added}
+use Rattle.pgp_core.specs.Answer.{log_after_read, log_with}
 use Rattle.pgp_core.specs.Lines.{is_blank}
 use Rattle.pgp_core.specs.Answerer.{MayAnswerBy}
 use Rattle.pgp_core.specs.Script.{log_past, logs, longest_line}
@@ -33,7 +35,7 @@ taken-fits log entry None taken fit is =
     let same : entry ≡ taken = cc in (same, ap (fits log) (sym same) ∙ fit)
 taken-fits log entry (Some refusal) taken fit is = let none : Some taken ≡ None = sym is ∙ rw fit refl in absurd cc
 
-taken-reads : (log : List Entry) (read : Result Command LineFault) (taken : Entry) → taken_by log read ≡ Some taken
+taken-reads : (log : List Entry) (read : Result Command LineFault) (taken : Entry) → taken_of_read log read ≡ Some taken
     → (read ≡ Ok (Submit taken)) × (fits log taken ≡ None)
 taken-reads log (Ok (Submit entry)) taken is =
     let facts = taken-fits log entry (fits log entry) taken refl is in (ap (λ e. Ok (Submit e)) facts.0, facts.1)
@@ -64,21 +66,21 @@ lines-cases format P log line lines none some = go (added_by format log line) re
   go (Some entry) is = rw is (some entry is)
 
 -- the log that they make is legal
-pub lines-legal : (format : Format) (log : List Entry) (lines : List (List ℕ)) → is_legal log ≡ true → is_legal (log ++ entries_of (entry_lines format log lines)) ≡ true
+pub lines-legal : (format : Format) (log : List Entry) (lines : List (List ℕ)) → is_legal log ≡ true → is_legal (log ++ entries_of_lines (entry_lines format log lines)) ≡ true
 lines-legal format log [] legal = ap is_legal (append-nil log) ∙ legal
 lines-legal format log (line ∷ lines) legal =
-    let P : List EntryLine → Type 0 = λ l. is_legal (log ++ entries_of l) ≡ true in
+    let P : List EntryLine → Type 0 = λ l. is_legal (log ++ entries_of_lines l) ≡ true in
     lines-cases format P log line lines (λ none. lines-legal format log lines legal)
     (λ entry adds.
     let grown = log ++ entry ∷ [] in
-    ap is_legal (sym (append_assoc log (entry ∷ []) (entries_of (entry_lines format grown lines))))
+    ap is_legal (sym (append_assoc log (entry ∷ []) (entries_of_lines (entry_lines format grown lines))))
     ∙ lines-legal format grown lines (legal-snoc log entry legal (adding format log line entry adds).fit))
 
 taken-past : (log : List Entry) (entry : Entry) (why : Option Refusal) → fits log entry ≡ why → with_added log (taken_from log (Submit entry)) ≡ log_with log entry why
 taken-past log entry None fit = rw fit refl
 taken-past log entry (Some refusal) fit = rw fit refl
 
-read-past : (log : List Entry) (read : Result Command LineFault) → with_added log (taken_by log read) ≡ log_of log read
+read-past : (log : List Entry) (read : Result Command LineFault) → with_added log (taken_of_read log read) ≡ log_after_read log read
 read-past log (Ok (Submit entry)) = taken-past log entry (fits log entry) refl
 read-past log (Ok (Ask pg)) = refl
 read-past log (Ok (Locate pool name)) = refl
@@ -99,14 +101,14 @@ abbrev no_wants : List (List ℕ) → List (Option Want)
 no_wants lines = map (λ line. None) lines
 
 -- lines of which none is out of memory make this log
-pub lines-made : (format : Format) (log : List Entry) (lines : List (List ℕ)) → logs format log (no_wants lines) lines ≡ log ++ entries_of (entry_lines format log lines)
+pub lines-made : (format : Format) (log : List Entry) (lines : List (List ℕ)) → logs format log (no_wants lines) lines ≡ log ++ entries_of_lines (entry_lines format log lines)
 lines-made format log [] = sym (append-nil log)
 lines-made format log (line ∷ lines) =
-    let P : List EntryLine → Type 0 = λ l. logs format (log_past format log None line) (no_wants lines) lines ≡ log ++ entries_of l in
+    let P : List EntryLine → Type 0 = λ l. logs format (log_past format log None line) (no_wants lines) lines ≡ log ++ entries_of_lines l in
     let after : (added : Option Entry) → added_by format log line ≡ added → logs format (log_past format log None line) (no_wants lines) lines ≡ logs format (with_added log added) (no_wants lines) lines =
     λ added is. ap (λ l. logs format l (no_wants lines) lines) (added-past format log line ∙ ap (with_added log) is) in
     lines-cases format P log line lines (λ none. after None none ∙ lines-made format log lines)
-    (λ entry adds. after (Some entry) adds ∙ lines-made format (log ++ entry ∷ []) lines ∙ append_assoc log (entry ∷ []) (entries_of (entry_lines format (log ++ entry ∷ []) lines)))
+    (λ entry adds. after (Some entry) adds ∙ lines-made format (log ++ entry ∷ []) lines ∙ append_assoc log (entry ∷ []) (entries_of_lines (entry_lines format (log ++ entry ∷ []) lines)))
 
 -- ---- whoever answers
 

@@ -3,7 +3,7 @@ use Rattle.std.proofs.Common.{◌≡◌, ℕ, ◌+◌, ◌-◌, ◌<◌, ◌≤�
 use Rattle.std.specs.List.{list_any}
 use Rattle.std.proofs.lemmas.List.{length-append}
 use Rattle.pgp_core.specs.Input.{HasRead}
-use Rattle.pgp_core.specs.Line.{Holds}
+use Rattle.pgp_core.specs.Line.{HoldsLine}
 use Rattle.pgp_core.specs.Lines.{LinesAndRest, is_line_feed, cut}
 use Rattle.pgp_core.specs.declared.input.Bounds.{Bounds}
 use Rattle.pgp_core.specs.declared.input.Input.{Input}
@@ -13,7 +13,7 @@ pub whole-piece : (bytes piece : List ℕ) → list_any is_line_feed piece ≡ f
 whole-piece bytes piece none = ap (λ (c : LinesAndRest). c.whole) (cut-piece bytes piece none)
 
 pub read-piece : (bounds : Bounds) (old new : Input) (bytes piece : List ℕ) → list_any is_line_feed piece ≡ false → 0 < old.left.lines → length piece ≤ old.left.bytes
-    → ((part : List ℕ) → Holds old.line part → Holds new.line (part ++ piece)) → new.left.lines ≡ old.left.lines → new.left.bytes ≡ old.left.bytes - length piece
+    → ((part : List ℕ) → HoldsLine old.line part → HoldsLine new.line (part ++ piece)) → new.left.lines ≡ old.left.lines → new.left.bytes ≡ old.left.bytes - length piece
     → HasRead bounds old bytes → HasRead bounds new (bytes ++ piece)
 read-piece bounds old new bytes piece none room fits added lines left read =
     let rest : (cut (bytes ++ piece)).rest ≡ (cut bytes).rest ++ piece = ap (λ (c : LinesAndRest). c.rest) (cut-piece bytes piece none) in
@@ -35,7 +35,7 @@ pub whole-line : (bytes piece : List ℕ) → list_any is_line_feed piece ≡ fa
 whole-line bytes piece none = ap (λ (c : LinesAndRest). c.whole) (cut-line bytes piece none)
 
 pub read-line : (bounds : Bounds) (old new : Input) (bytes piece : List ℕ) → list_any is_line_feed piece ≡ false → 0 < old.left.lines → length piece < old.left.bytes
-    → Holds new.line [] → new.left.lines ≡ old.left.lines - 1 → new.left.bytes ≡ old.left.bytes - (length piece + 1)
+    → HoldsLine new.line [] → new.left.lines ≡ old.left.lines - 1 → new.left.bytes ≡ old.left.bytes - (length piece + 1)
     → HasRead bounds old bytes → HasRead bounds new (bytes ++ (piece ++ 10 ∷ []))
 read-line bounds old new bytes piece none room fits begun lines left read =
     let rest : (cut (bytes ++ (piece ++ 10 ∷ []))).rest ≡ [] = ap (λ (c : LinesAndRest). c.rest) (cut-line bytes piece none) in

@@ -4,13 +4,15 @@ use Rattle.std.proofs.lemmas.Bool.Decides.{nat_tests}
 use Rattle.std.proofs.lemmas.List.{nil_from_length}
 use Rattle.pgp_ids.specs.declared.entry.Entry.{Entry}
 use Rattle.std.specs.Prelude.{Ok}
-use Rattle.pgp_text.specs.Command.{command_of}
-use Rattle.pgp_text.specs.Commands.{Command, Format, Submit, Ask, Locate, Trace}
+use Rattle.pgp_lines.specs.Command.{command_of}
+use Rattle.pgp_lines.specs.declared.command.Command.{Command}
+use Rattle.pgp_lines.specs.declared.command.Command.TheVariants.{Submit, Ask, Locate, Trace}
+use Rattle.pgp_lines.specs.declared.command.format.Format.{Format}
 use Rattle.pgp_core.specs.Wants.{want_of, LacksReply}
 use Rattle.pgp_core.specs.Answer.{line_text}
 use Rattle.pgp_core.specs.Lines.{is_blank}
 use Rattle.pgp_core.specs.Script.{longest_line, MayMeet}
-use Rattle.pgp_core.specs.Line.{KeptBy, Holds}
+use Rattle.pgp_core.specs.Line.{KeptBy, HoldsLine}
 use Rattle.pgp_core.specs.WrittenFor.{PutsText, PutsLine, MayLack}
 use Rattle.pgp_core.specs.declared.line.Fate.TheVariants.{Kept, TooLong, NoMemory}
 use Rattle.pgp_core.specs.declared.line.LineBuffer.{LineBuffer}
@@ -36,12 +38,12 @@ puts-text alone format before after line old new blank puts few =
     }
 
 -- a line that was too long for its buffer
-pub is-long : (buffer : LineBuffer) → buffer.fate ≡ TooLong → buffer.blank ≡ false → (line : List ℕ) → Holds buffer line
+pub is-long : (buffer : LineBuffer) → buffer.fate ≡ TooLong → buffer.blank ≡ false → (line : List ℕ) → HoldsLine buffer line
     → (is_blank line ≡ false) × (longest_line < length line)
 is-long buffer fate some line holds = (sym holds.blank ∙ some, subst (λ f. KeptBy f buffer.bytes.items line) fate holds.kept)
 
 -- one that was out of memory
-pub is-short : (buffer : LineBuffer) (few : ℕ) → buffer.fate ≡ NoMemory few → buffer.blank ≡ false → (line : List ℕ) → Holds buffer line
+pub is-short : (buffer : LineBuffer) (few : ℕ) → buffer.fate ≡ NoMemory few → buffer.blank ≡ false → (line : List ℕ) → HoldsLine buffer line
     → (is_blank line ≡ false) × (length line ≤ longest_line)
 is-short buffer few fate some line holds =
     let kept : (length line ≡ few) × (few ≤ longest_line) = subst (λ f. KeptBy f buffer.bytes.items line) fate holds.kept in
@@ -49,7 +51,7 @@ is-short buffer few fate some line holds =
 
 -- what holds of the bytes that are kept holds of the line
 pub kept-whole : (buffer : LineBuffer) (P : List ℕ → Type 0) → buffer.fate ≡ Kept → (length buffer.bytes.items ≤ longest_line → P buffer.bytes.items)
-    → (line : List ℕ) → Holds buffer line → P line
+    → (line : List ℕ) → HoldsLine buffer line → P line
 kept-whole buffer P fate there line holds =
     let kept : (buffer.bytes.items ≡ line) × (length line ≤ longest_line) = subst (λ f. KeptBy f buffer.bytes.items line) fate holds.kept in
     (subst (λ l. length l ≤ longest_line → P l) kept.0 there) kept.1

@@ -9,22 +9,24 @@ use Rattle.pgp_ids.specs.declared.view.View.{View}
 use Rattle.pgp_ids.specs.declared.refusal.Refusal.{Refusal}
 use Rattle.pgp_group.specs.Touched.{view_at}
 use Rattle.pgp_group.specs.View.{scratch}
-use Rattle.pgp_text.specs.Commands.{Command, Format, Submit, Ask, Locate, Trace}
+use Rattle.pgp_lines.specs.declared.command.Command.{Command}
+use Rattle.pgp_lines.specs.declared.command.Command.TheVariants.{Submit, Ask, Locate, Trace}
+use Rattle.pgp_lines.specs.declared.command.format.Format.{Format}
 use Rattle.pgp_text.specs.declared.reply.Reply.{Reply}
 use Rattle.pgp_log.specs.Fits.{fits}
 use Rattle.pgp_log.specs.Log.{epoch_of}
-use Rattle.pgp_text.specs.Command.{command_of}
-use Rattle.pgp_text.specs.LineFault.{LineFault}
+use Rattle.pgp_lines.specs.Command.{command_of}
+use Rattle.pgp_lines.specs.LineFault.{LineFault}
 use Rattle.pgp_text.specs.Reply.{reply_text}
-use Rattle.pgp_core.specs.Answer.{asked_reply, reply_of, log_after, submitted_reply, log_with, text_of, log_of}
-use Rattle.pgp_core.specs.Answerer.{MayAnswerBy, Replies, is_accepted}
+use Rattle.pgp_core.specs.Answer.{asked_reply, reply_of, log_after, submitted_reply, log_with, text_of, log_after_read}
+use Rattle.pgp_core.specs.Answerer.{MayAnswerBy, Replies, says_accepted}
 use Rattle.pgp_core.specs.WrittenFor.{PutsFault, PutsReply, PutsText}
 use Rattle.pgp_core.proofs.WrittenLemmas.{by-itself}
 
 -- where no entry was taken, the log stays
-stays : (log : List Entry) (command : Command) → is_accepted (reply_of log command) ≡ false → log_after log command ≡ log
+stays : (log : List Entry) (command : Command) → says_accepted (reply_of log command) ≡ false → log_after log command ≡ log
 stays log (Submit entry) other = go (fits log entry) other where
-  go : (why : Option Refusal) → is_accepted (submitted_reply log entry why) ≡ false → log_with log entry why ≡ log
+  go : (why : Option Refusal) → says_accepted (submitted_reply log entry why) ≡ false → log_with log entry why ≡ log
   go None other = cc
   go (Some refusal) other = refl
 stays log (Ask pg) other = refl
@@ -33,12 +35,12 @@ stays log (Trace code epochs) other = refl
 
 -- Where no answer could be put, no entry was taken: for that there was room.
 pub stays-unless-put : {T E F : Type 0} (alone : Bool) (before after : List Entry) (command : Command) (reply : Reply) (put : Result T E) (fault : F)
-    → Replies alone before after command reply → (is_accepted reply ≡ true → IsOk put) → OnErr (result_or put (Err fault)) (MayAnswerBy alone before after)
+    → Replies alone before after command reply → (says_accepted reply ≡ true → IsOk put) → OnErr (result_or put (Err fault)) (MayAnswerBy alone before after)
 stays-unless-put alone before after command reply (Ok done) fault replies sure = tt
-stays-unless-put alone before after command reply (Err lost) fault replies sure = elim (cases_Bool (is_accepted reply)) [
+stays-unless-put alone before after command reply (Err lost) fault replies sure = elim (cases_Bool (says_accepted reply)) [
   | inl took ↦ let no : false ≡ true = sure took in cc
   | inr other ↦
-      let same : after ≡ replies.by = replies.log ∙ stays replies.by command (sym (ap is_accepted replies.is) ∙ other) in
+      let same : after ≡ replies.by = replies.log ∙ stays replies.by command (sym (ap says_accepted replies.is) ∙ other) in
       subst (MayAnswerBy alone before) (sym same) replies.may
 ]
 
@@ -72,7 +74,7 @@ puts-command alone format before after line command old new reads puts = record 
   by = puts.by;
   may = puts.may;
   text = puts.text ∙ ap (λ c. old ++ (text_of puts.by c ++ 10 ∷ [])) (sym reads);
-  log = puts.log ∙ ap (log_of puts.by) (sym reads);
+  log = puts.log ∙ ap (log_after_read puts.by) (sym reads);
 }
 
 pub puts-fault : (alone : Bool) (format : Format) (log : List Entry) (line : List ℕ) (fault : Option LineFault) (old new : List ℕ) → IfSome fault (λ f. command_of format line ≡ Err f)
@@ -82,5 +84,5 @@ puts-fault alone format log line (Some fault) old new reads puts = record {
   by = log;
   may = by-itself alone log;
   text = puts ∙ ap (λ c. old ++ (text_of log c ++ 10 ∷ [])) (sym reads);
-  log = ap (log_of log) (sym reads);
+  log = ap (log_after_read log) (sym reads);
 }

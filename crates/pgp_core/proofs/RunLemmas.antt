@@ -7,14 +7,14 @@ use Rattle.std.proofs.Math.Seq.{drop-append_seam, take-append-add}
 use Rattle.std.specs.List.{list_any}
 use Rattle.std.proofs.lemmas.List.{length-append}
 use Rattle.pgp_ids.specs.declared.entry.Entry.{Entry}
-use Rattle.pgp_text.specs.Commands.{Format}
+use Rattle.pgp_lines.specs.declared.command.format.Format.{Format}
 use Rattle.pgp_core.specs.Lines.{is_line_feed, cut, last_line, lines_of}
-use Rattle.pgp_core.specs.Line.{Holds}
+use Rattle.pgp_core.specs.Line.{HoldsLine}
 use Rattle.pgp_core.specs.Input.{HasRead}
 use Rattle.pgp_core.specs.Output.{WrittenPart, FrontWent}
 use Rattle.pgp_core.specs.Script.{IsBeyond, Within, whole_lines}
 use Rattle.pgp_core.specs.WrittenFor.{IsWrittenFor, PutsLine, StartsLeft}
-use Rattle.pgp_core.specs.Telling.{AreAnswered, RunStart, IsAfter, IsDone, WentBy, IsStopped, StoppedAtLast, ChunkPart}
+use Rattle.pgp_core.specs.Telling.{AreAnswered, RunStart, IsAfterBytes, IsAnsweredWhole, WentBy, IsStopped, StoppedAtLast, ChunkPart}
 use Rattle.pgp_core.specs.declared.input.Bounds.{Bounds}
 use Rattle.pgp_core.specs.declared.input.Input.{Input}
 use Rattle.pgp_core.specs.declared.script.Script.{Script}
@@ -115,7 +115,7 @@ cut_off alone start lines others log now new pending so_far front =
 
 -- what was pending went out as far as the fault let it, after these bytes
 pub stopped-after : (fault : ScriptFault) (alone : Bool) (start : RunStart) (script : Script) (log : List Entry) (now new : Option (List ℕ)) (bytes more : List ℕ)
-    → IsAfter alone start script log now bytes → fault ≢ Gone → WentBy fault now new script.output.pending.items
+    → IsAfterBytes alone start script log now bytes → fault ≢ Gone → WentBy fault now new script.output.pending.items
     → (fault ≡ Read → later_lines start bytes more ≡ []) → IsStopped alone start fault new (whole_lines start.bounds (bytes ++ more))
 stopped-after fault alone start script log now new bytes more after known went all =
     subst (IsStopped alone start fault new) (sym (front_of_cut start bytes more (omega (arith, after.read.bytes_left)) (omega (arith, after.read.lines_left))))
@@ -124,7 +124,7 @@ stopped-after fault alone start script log now new bytes more after known went a
 -- a piece more of the line that is being read
 pub after-piece : (alone : Bool) (start : RunStart) (script : Script) (input : Input) (log : List Entry) (now : Option (List ℕ)) (bytes piece : List ℕ)
     → list_any is_line_feed piece ≡ false → ((bounds : Bounds) (bytes : List ℕ) → HasRead bounds script.input bytes → HasRead bounds input (bytes ++ piece))
-    → IsAfter alone start script log now bytes → IsAfter alone start (record script { input = input }) log now (bytes ++ piece)
+    → IsAfterBytes alone start script log now bytes → IsAfterBytes alone start (record script { input = input }) log now (bytes ++ piece)
 after-piece alone start script input log now bytes piece none step after =
     record { format = after.format; read = step start.bounds bytes after.read; answered = rw (whole-piece bytes piece none) after.answered }
 
@@ -147,7 +147,7 @@ line_of_cut start input bytes piece more none room fits read =
 
 pub taken-more : (alone : Bool) (old mid new : Script) (before between after : List Entry) (was now then : Option (List ℕ)) (chunk rest piece others : List ℕ)
     → ChunkPart alone old mid before between was now chunk rest → rest ≡ piece ++ others
-    → ((start : RunStart) (bytes : List ℕ) → IsAfter alone start mid between now bytes → IsAfter alone start new after then (bytes ++ piece))
+    → ((start : RunStart) (bytes : List ℕ) → IsAfterBytes alone start mid between now bytes → IsAfterBytes alone start new after then (bytes ++ piece))
     → ChunkPart alone old new before after was then chunk others
 taken-more alone old mid new before between after was now then chunk rest piece others taken parts step = record {
   done = taken.done ++ piece;
@@ -229,9 +229,9 @@ within_started bounds input bytes started read =
 
 -- the last line was answered
 pub done_started : (alone : Bool) (script : Script) (before after : List Entry) (now new : Option (List ℕ)) (still : List ℕ) → script.input.line.started ≡ true
-    → ((line : List ℕ) → Holds script.input.line line → (start : RunStart) (lines : List (List ℕ)) → script.codec.reader.format ≡ start.format → AreAnswered alone start lines before now script.output.pending.items
+    → ((line : List ℕ) → HoldsLine script.input.line line → (start : RunStart) (lines : List (List ℕ)) → script.codec.reader.format ≡ start.format → AreAnswered alone start lines before now script.output.pending.items
     → AreAnswered alone start (lines ++ (line ++ []) ∷ []) after new still)
-    → (start : RunStart) (bytes : List ℕ) → IsAfter alone start script before now bytes → IsDone alone start after new still bytes
+    → (start : RunStart) (bytes : List ℕ) → IsAfterBytes alone start script before now bytes → IsAnsweredWhole alone start after new still bytes
 done_started alone script before after now new still started puts start bytes so_far =
     let begun = sym so_far.read.line.started ∙ started in
     record {
@@ -241,7 +241,7 @@ done_started alone script before after now new still started puts start bytes so
 
 -- there is no last line
 pub done_ended : (alone : Bool) (script : Script) (log : List Entry) (now : Option (List ℕ)) → script.input.line.started ≡ false
-    → (start : RunStart) (bytes : List ℕ) → IsAfter alone start script log now bytes → IsDone alone start log now script.output.pending.items bytes
+    → (start : RunStart) (bytes : List ℕ) → IsAfterBytes alone start script log now bytes → IsAnsweredWhole alone start log now script.output.pending.items bytes
 done_ended alone script log now none start bytes after =
     let lines = no_line bytes (sym after.read.line.started ∙ none) in
     record {
@@ -254,9 +254,9 @@ done_ended alone script log now none start bytes after =
 
 -- the answering stopped at the last line
 pub stopped-at-last : (fault : ScriptFault) (alone : Bool) (script : Script) (before : List Entry) (now new : Option (List ℕ)) → script.input.line.started ≡ true
-    → ((line : List ℕ) → Holds script.input.line line → (start : RunStart) (lines others : List (List ℕ)) → script.codec.reader.format ≡ start.format → AreAnswered alone start lines before now script.output.pending.items
+    → ((line : List ℕ) → HoldsLine script.input.line line → (start : RunStart) (lines others : List (List ℕ)) → script.codec.reader.format ≡ start.format → AreAnswered alone start lines before now script.output.pending.items
     → (fault ≢ Read) × IsStopped alone start fault new (lines ++ (line ++ []) ∷ others))
-    → (start : RunStart) (bytes : List ℕ) → IsAfter alone start script before now bytes → StoppedAtLast alone start fault new bytes
+    → (start : RunStart) (bytes : List ℕ) → IsAfterBytes alone start script before now bytes → StoppedAtLast alone start fault new bytes
 stopped-at-last fault alone script before now new started stops start bytes so_far =
     let begun = sym so_far.read.line.started ∙ started in
     let stop = stops (cut bytes).rest so_far.read.line start (cut bytes).whole [] so_far.format so_far.answered in

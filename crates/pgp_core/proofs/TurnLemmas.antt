@@ -3,12 +3,12 @@ use Rattle.std.proofs.Common.{◌≡◌, ◌≢◌, ℕ, List, [], ◌++◌, Boo
 use Rattle.std.specs.Io.KnownBytes.{Appends, Consumes, Keeps, IsAtEnd}
 use Rattle.std.proofs.KnownBytes.{Consumes-trans, Consumes-kept}
 use Rattle.pgp_ids.specs.declared.entry.Entry.{Entry}
-use Rattle.pgp_text.specs.Commands.{Format}
+use Rattle.pgp_lines.specs.declared.command.format.Format.{Format}
 use Rattle.pgp_core.specs.Account.{Account, ReadFailedBy}
 use Rattle.pgp_core.specs.Lines.{cut}
 use Rattle.pgp_core.specs.Script.{whole_lines}
 use Rattle.pgp_core.specs.WrittenFor.{StartsLeft}
-use Rattle.pgp_core.specs.Telling.{RunStart, AreAnswered, IsAfter, IsStopped, WentBy, StopsIn, StoppedAtLast, Reads, Stops, WasStopped}
+use Rattle.pgp_core.specs.Telling.{RunStart, AreAnswered, IsAfterBytes, IsStopped, WentBy, StopsIn, StoppedAtLast, Reads, Stops, WasStopped}
 use Rattle.pgp_core.specs.declared.input.Bounds.{Bounds}
 use Rattle.pgp_core.specs.declared.output.Output.{Output}
 use Rattle.pgp_core.specs.declared.script.Script.{Script}
@@ -23,14 +23,14 @@ pub written : (alone : Bool) (start : RunStart) (lines : List (List ℕ)) (log :
 written alone start lines log now new pending so_far wrote = went-on alone start lines log now new pending [] so_far (WrittenPart-none now new pending wrote)
 
 after_flush : (alone : Bool) (start : RunStart) (script : Script) (output : Output) (log : List Entry) (now new : Option (List ℕ)) (bytes : List ℕ)
-    → Appends now new script.output.pending.items → output.pending.items ≡ [] → IsAfter alone start script log now bytes
-    → IsAfter alone start (record script { output = output }) log new bytes
+    → Appends now new script.output.pending.items → output.pending.items ≡ [] → IsAfterBytes alone start script log now bytes
+    → IsAfterBytes alone start (record script { output = output }) log new bytes
 after_flush alone start script output log now new bytes wrote none after =
     record { format = after.format; read = after.read; answered = rw none (written alone start (cut bytes).whole log now new _ after.answered wrote) }
 
 pub turn : (alone : Bool) (start : RunStart) (script new : Script) (output : Output) (before after : List Entry) (from mid to now flushed then : Option (List ℕ)) (chunk : List ℕ)
     → Reads alone start script before from mid now → Appends now flushed script.output.pending.items → output.pending.items ≡ [] → Consumes mid to chunk
-    → ((start : RunStart) (bytes : List ℕ) → IsAfter alone start (record script { output = output }) before flushed bytes → IsAfter alone start new after then (bytes ++ chunk))
+    → ((start : RunStart) (bytes : List ℕ) → IsAfterBytes alone start (record script { output = output }) before flushed bytes → IsAfterBytes alone start new after then (bytes ++ chunk))
     → Reads alone start new after from to then
 turn alone start script new output before after from mid to now flushed then chunk reads wrote none more step = record {
   bytes = reads.bytes ++ chunk;
@@ -52,7 +52,7 @@ stops_at_read fault alone start script log from mid to now new read_failed known
 
 pub stops_in_chunk : (alone : Bool) (start : RunStart) (fault : ScriptFault) (script : Script) (output : Output) (log : List Entry) (from mid to now flushed then : Option (List ℕ)) (chunk : List ℕ) (read_failed : Bool)
     → Reads alone start script log from mid now → Appends now flushed script.output.pending.items → output.pending.items ≡ [] → Consumes mid to chunk
-    → ((start : RunStart) (bytes : List ℕ) → IsAfter alone start (record script { output = output }) log flushed bytes → StopsIn alone start fault then (bytes ++ chunk))
+    → ((start : RunStart) (bytes : List ℕ) → IsAfterBytes alone start (record script { output = output }) log flushed bytes → StopsIn alone start fault then (bytes ++ chunk))
     → Stops alone start fault from to then read_failed
 stops_in_chunk alone start fault script output log from mid to now flushed then chunk read_failed reads wrote none more stop =
     let stops = stop start reads.bytes (after_flush alone start script output log now flushed reads.bytes wrote none reads.after) in
@@ -65,7 +65,7 @@ stops_in_chunk alone start fault script output log from mid to now flushed then 
 
 pub stops_at_end : (fault : ScriptFault) (alone : Bool) (start : RunStart) (script : Script) (log : List Entry) (from to now then : Option (List ℕ)) (read_failed : Bool)
     → Reads alone start script log from to now → IsAtEnd to
-    → ((start : RunStart) (bytes : List ℕ) → IsAfter alone start script log now bytes → StoppedAtLast alone start fault then bytes)
+    → ((start : RunStart) (bytes : List ℕ) → IsAfterBytes alone start script log now bytes → StoppedAtLast alone start fault then bytes)
     → Stops alone start fault from to then read_failed
 stops_at_end fault alone start script log from to now then read_failed reads end stop =
     let last = stop start reads.bytes reads.after in

@@ -2,7 +2,7 @@
 use Rattle.std.proofs.Common.{◌≡◌, ℕ, suc, ◌<◌, List, [], ◌∷◌, ◌++◌, Bool, true, false, Option, Some, None, length, nat_lt, arith, refl, sym, ap, ap₂, subst, ◌∙◌, append_assoc, append-nil}
 use Rattle.std.proofs.lemmas.Bool.Decides.{nat_tests}
 use Rattle.pgp_ids.specs.declared.entry.Entry.{Entry}
-use Rattle.pgp_text.specs.Commands.{Format}
+use Rattle.pgp_lines.specs.declared.command.format.Format.{Format}
 use Rattle.pgp_core.specs.Answer.{long_text}
 use Rattle.pgp_core.specs.Answerer.{MayAnswerBy}
 use Rattle.pgp_core.specs.Lines.{is_blank}

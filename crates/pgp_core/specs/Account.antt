@@ -1,6 +1,7 @@
 -- What is known of a reader and a writer, and which of their calls failed while a script was answered.
 use Rattle.std.specs.Prelude.{◌≡◌, ℕ, List, Bool, true, Option, Result}
 use Rattle.std.specs.Result.{MatchResult}
+use Rattle.pgp_core.specs.Streams.{SinkState, SourceState}
 use Rattle.pgp_core.specs.declared.fault.ScriptFault.{ScriptFault}
 use Rattle.pgp_core.specs.declared.fault.ScriptFault.TheVariants.{Read, Write, Gone}
 
@@ -12,9 +13,9 @@ pub record Account : Type 0 where
   pub read_failed : Bool
   pub write_failed : Bool
 
-abbrev pub account : (remaining contents : Option (List ℕ)) (read_failed write_failed : Bool) → Account
-account remaining contents read_failed write_failed =
-    record { remaining = remaining; contents = contents; read_failed = read_failed; write_failed = write_failed }
+abbrev pub account : SourceState → SinkState → Account
+account source sink =
+    record { remaining = source.remaining; contents = sink.contents; read_failed = source.failed; write_failed = sink.failed }
 
 -- No call failed: what was known of failures is what there is to know. Where a call had failed before, that is still known, and
 -- no account says whether one failed again.

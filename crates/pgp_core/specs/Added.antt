@@ -2,10 +2,12 @@
 use Rattle.std.specs.Prelude.{◌≡◌, ℕ, List, [], ◌∷◌, ◌++◌, Bool, true, false, Option, Some, None, Result, Ok, Err, is_none, length, map, nat_lt, if◌then◌else◌}
 use Rattle.std.specs.Option.{option_map_or}
 use Rattle.pgp_ids.specs.declared.entry.Entry.{Entry}
-use Rattle.pgp_text.specs.Command.{command_of}
-use Rattle.pgp_text.specs.LineFault.{LineFault}
+use Rattle.pgp_lines.specs.Command.{command_of}
+use Rattle.pgp_lines.specs.LineFault.{LineFault}
 use Rattle.pgp_text.specs.Reply.{reply_text}
-use Rattle.pgp_text.specs.Commands.{Command, Format, Submit, Ask, Locate, Trace}
+use Rattle.pgp_lines.specs.declared.command.Command.{Command}
+use Rattle.pgp_lines.specs.declared.command.Command.TheVariants.{Submit, Ask, Locate, Trace}
+use Rattle.pgp_lines.specs.declared.command.format.Format.{Format}
 use Rattle.pgp_log.specs.Fits.{fits}
 use Rattle.pgp_text.specs.declared.reply.Reply.{Reply}
 use Rattle.pgp_text.specs.declared.reply.Reply.TheVariants as reply
@@ -25,14 +27,14 @@ taken_from log (Locate pool name) = None
 taken_from log (Trace code epochs) = None
 
 -- the same, where this was read of a line
-abbrev pub taken_by : List Entry → Result Command LineFault → Option Entry
-taken_by log (Ok command) = taken_from log command
-taken_by log (Err fault) = None
+abbrev pub taken_of_read : List Entry → Result Command LineFault → Option Entry
+taken_of_read log (Ok command) = taken_from log command
+taken_of_read log (Err fault) = None
 
 -- the entry that a line adds to the log, if it adds one
 abbrev pub added_by : Format → List Entry → List ℕ → Option Entry
 added_by format log line =
-    if is_blank line then None else (if nat_lt longest_line (length line) then None else taken_by log (command_of format line))
+    if is_blank line then None else (if nat_lt longest_line (length line) then None else taken_of_read log (command_of format line))
 
 -- the log after that
 abbrev pub with_added : List Entry → Option Entry → List Entry
@@ -52,12 +54,12 @@ entry_lines format log [] = []
 entry_lines format log (line ∷ lines) =
     option_map_or (λ entry. entry_line line entry ∷ entry_lines format (log ++ entry ∷ []) lines) (added_by format log line) (entry_lines format log lines)
 
-abbrev pub entries_of : List EntryLine → List Entry
-entries_of lines = map (λ it. it.entry) lines
+abbrev pub entries_of_lines : List EntryLine → List Entry
+entries_of_lines lines = map (λ it. it.entry) lines
 
 -- the log that the lines of a script make
 abbrev pub log_of_lines : Format → List (List ℕ) → List Entry
-log_of_lines format lines = entries_of (entry_lines format [] lines)
+log_of_lines format lines = entries_of_lines (entry_lines format [] lines)
 
 -- ---- any other line
 
@@ -79,7 +81,7 @@ pub record IsQuestion (format : Format) (log : List Entry) (line : List ℕ) : T
   pub answered : is_refusal (reply_of log command) ≡ false
 
 -- a run would answer the line by this refusal
-pub record IsRefused (format : Format) (log : List Entry) (line : List ℕ) (why : Reply) : Type 0 where
+pub record IsRefusedBy (format : Format) (log : List Entry) (line : List ℕ) (why : Reply) : Type 0 where
   pub some : is_blank line ≡ false
   pub refused : reply_text_of format log line ≡ reply_text why
 
@@ -88,7 +90,7 @@ abbrev pub IsOutcome : Format → List Entry → List ℕ → LineOutcome → Ty
 IsOutcome format log line Blank = is_blank line ≡ true
 IsOutcome format log line Taken = (entry : Entry) × (added_by format log line ≡ Some entry)
 IsOutcome format log line Asked = (added_by format log line ≡ None) × IsQuestion format log line
-IsOutcome format log line (Refused why) = (added_by format log line ≡ None) × IsRefused format log line (reply.Refused why)
+IsOutcome format log line (Refused why) = (added_by format log line ≡ None) × IsRefusedBy format log line (reply.Refused why)
 
 -- the same, where the line was read as this command
 abbrev pub IsOutcomeOf : List Entry → Command → LineOutcome → Type 0

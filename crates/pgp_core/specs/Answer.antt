@@ -16,11 +16,13 @@ use Rattle.pgp_map.specs.Pools.{pool}
 use Rattle.pgp_sets.specs.Sets.{pool_membership}
 use Rattle.pgp_group.specs.Entries.{incs_of}
 use Rattle.pgp_group.specs.View.{scratch}
-use Rattle.pgp_text.specs.Command.{command_of}
+use Rattle.pgp_lines.specs.Command.{command_of}
 use Rattle.pgp_text.specs.EntryOp.{entry_op}
-use Rattle.pgp_text.specs.LineFault.{LineFault, line_too_long}
+use Rattle.pgp_lines.specs.LineFault.{LineFault, line_too_long}
 use Rattle.pgp_text.specs.Reply.{reply_text, fault_text}
-use Rattle.pgp_text.specs.Commands.{Command, Format, Submit, Ask, Locate, Trace}
+use Rattle.pgp_lines.specs.declared.command.Command.{Command}
+use Rattle.pgp_lines.specs.declared.command.Command.TheVariants.{Submit, Ask, Locate, Trace}
+use Rattle.pgp_lines.specs.declared.command.format.Format.{Format}
 use Rattle.pgp_text.specs.declared.reply.Reply.{Reply}
 use Rattle.pgp_text.specs.declared.reply.Reply.TheVariants.{Accepted, Asked, Located, Traced, Refused}
 use Rattle.pgp_text.specs.declared.reply.line_refusal.LineRefusal.TheVariants as why
@@ -82,13 +84,13 @@ abbrev pub line_text : Format → List Entry → List ℕ → List ℕ
 line_text format log line = text_of log (command_of format line)
 
 -- the log after what was read
-abbrev pub log_of : List Entry → Result Command LineFault → List Entry
-log_of log (Ok command) = log_after log command
-log_of log (Err fault) = log
+abbrev pub log_after_read : List Entry → Result Command LineFault → List Entry
+log_after_read log (Ok command) = log_after log command
+log_after_read log (Err fault) = log
 
 -- the log after such a line
 abbrev pub line_log : Format → List Entry → List ℕ → List Entry
-line_log format log line = log_of log (command_of format line)
+line_log format log line = log_after_read log (command_of format line)
 
 -- the text for a line that is too long
 abbrev pub long_text : List ℕ

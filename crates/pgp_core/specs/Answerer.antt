@@ -1,7 +1,7 @@
 -- What whoever answers the commands of a script may reply.
 use Rattle.std.specs.Prelude.{◌≡◌, List, Bool, true, false}
 use Rattle.pgp_ids.specs.declared.entry.Entry.{Entry}
-use Rattle.pgp_text.specs.Commands.{Command}
+use Rattle.pgp_lines.specs.declared.command.Command.{Command}
 use Rattle.pgp_text.specs.declared.reply.Reply.{Reply}
 use Rattle.pgp_text.specs.declared.reply.Reply.TheVariants.{Accepted, Asked, Located, Traced, Refused}
 use Rattle.pgp_log.specs.Log.{IsFrontOf, is_legal}
@@ -21,9 +21,9 @@ pub record Replies (alone : Bool) (before after : List Entry) (command : Command
   pub log : after ≡ log_after by command
 
 -- it says that the log took an entry
-abbrev pub is_accepted : Reply → Bool
-is_accepted (Accepted op count epoch) = true
-is_accepted (Asked pg view) = false
-is_accepted (Located pg members epoch) = false
-is_accepted (Traced first past) = false
-is_accepted (Refused refused) = false
+abbrev pub says_accepted : Reply → Bool
+says_accepted (Accepted op count epoch) = true
+says_accepted (Asked pg view) = false
+says_accepted (Located pg members epoch) = false
+says_accepted (Traced first past) = false
+says_accepted (Refused refused) = false

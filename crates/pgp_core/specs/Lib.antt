@@ -8,6 +8,7 @@ pub mod Input
 pub mod Output
 pub mod Wants
 pub mod WrittenFor
+pub mod Streams
 pub mod Account
 pub mod Run
 pub mod Whole

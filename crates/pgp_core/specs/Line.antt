@@ -13,7 +13,7 @@ KeptBy TooLong bytes line = longest_line < length line
 KeptBy (NoMemory few) bytes line = (length line ≡ few) × (few ≤ longest_line)
 
 -- the buffer is that of this line
-pub record Holds (buffer : LineBuffer) (line : List ℕ) : Type 0 where
+pub record HoldsLine (buffer : LineBuffer) (line : List ℕ) : Type 0 where
   pub kept : KeptBy buffer.fate buffer.bytes.items line
   pub started : buffer.started ≡ nat_lt 0 (length line)
   pub blank : buffer.blank ≡ is_blank line

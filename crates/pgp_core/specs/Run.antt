@@ -2,7 +2,7 @@
 -- who add to the log too.
 use Rattle.std.specs.Prelude.{ℕ, List, [], Bool}
 use Rattle.pgp_ids.specs.declared.entry.Entry.{Entry}
-use Rattle.pgp_text.specs.Commands.{Format}
+use Rattle.pgp_lines.specs.declared.command.format.Format.{Format}
 use Rattle.pgp_core.specs.Account.{Account}
 use Rattle.pgp_core.specs.Telling.{RanToEnd, WasStopped}
 use Rattle.pgp_core.specs.declared.fault.ScriptFault.{ScriptFault}

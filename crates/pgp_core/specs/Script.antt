@@ -4,9 +4,10 @@ use Rattle.std.specs.List.{range_with_len}
 use Rattle.pgp_ids.specs.declared.entry.Entry.{Entry}
 use Rattle.pgp_ids.specs.declared.refusal.Refusal.TheVariants as refusal
 use Rattle.pgp_ids.specs.declared.text_fault.TextFault.TheVariants as fault
-use Rattle.pgp_text.specs.Command.{command_of}
+use Rattle.pgp_lines.specs.Command.{command_of}
 use Rattle.pgp_text.specs.Reply.{reply_text}
-use Rattle.pgp_text.specs.Commands.{Format, Submit}
+use Rattle.pgp_lines.specs.declared.command.Command.TheVariants.{Submit}
+use Rattle.pgp_lines.specs.declared.command.format.Format.{Format}
 use Rattle.pgp_text.specs.declared.reply.Reply.TheVariants.{Refused}
 use Rattle.pgp_text.specs.declared.reply.line_refusal.LineRefusal.TheVariants as why
 use Rattle.pgp_core.specs.Answer.{line_text, line_log, long_text}

@@ -4,7 +4,8 @@ use Rattle.pgp_ids.specs.declared.entry.Entry.{Entry}
 use Rattle.pgp_ids.specs.declared.pg_id.PgId.{PgId}
 use Rattle.pgp_ids.specs.declared.view.View.{View}
 use Rattle.pgp_group.specs.View.{scratch}
-use Rattle.pgp_text.specs.Commands.{Command, Format}
+use Rattle.pgp_lines.specs.declared.command.Command.{Command}
+use Rattle.pgp_lines.specs.declared.command.format.Format.{Format}
 use Rattle.pgp_text.specs.declared.reply.Reply.{Reply}
 use Rattle.pgp_core.specs.Answer.{long_text, log_after, reply_of}
 use Rattle.pgp_core.specs.Script.{want_text}

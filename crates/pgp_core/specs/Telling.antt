@@ -3,7 +3,7 @@
 use Rattle.std.specs.Prelude.{◌≡◌, ◌≢◌, ◌⊎◌, ℕ, List, [], ◌++◌, Bool, true, Option}
 use Rattle.std.specs.Io.KnownBytes.{Appends, Consumes, IsAtEnd}
 use Rattle.pgp_ids.specs.declared.entry.Entry.{Entry}
-use Rattle.pgp_text.specs.Commands.{Format}
+use Rattle.pgp_lines.specs.declared.command.format.Format.{Format}
 use Rattle.pgp_core.specs.Lines.{cut, lines_of}
 use Rattle.pgp_core.specs.Script.{IsBeyond, Within, whole_lines}
 use Rattle.pgp_core.specs.Output.{WrittenPart, FrontWent}
@@ -55,7 +55,7 @@ pub record IsStopped (alone : Bool) (start : RunStart) (fault : ScriptFault) (no
 -- ---- bytes
 
 -- These bytes were read, by a reader of lines up to that version, and the answers to the lines that have ended are written or pending.
-pub record IsAfter (alone : Bool) (start : RunStart) (script : Script) (log : List Entry) (now : Option (List ℕ)) (bytes : List ℕ) : Type 0 where
+pub record IsAfterBytes (alone : Bool) (start : RunStart) (script : Script) (log : List Entry) (now : Option (List ℕ)) (bytes : List ℕ) : Type 0 where
   pub format : script.codec.reader.format ≡ start.format
   pub read : HasRead start.bounds script.input bytes
   pub answered : AreAnswered alone start (cut bytes).whole log now script.output.pending.items
@@ -69,12 +69,12 @@ pub record StopsIn (alone : Bool) (start : RunStart) (fault : ScriptFault) (now 
 pub record ChunkPart (alone : Bool) (old new : Script) (before after : List Entry) (was now : Option (List ℕ)) (chunk rest : List ℕ) : Type 0 where
   pub done : List ℕ
   pub whole : done ++ rest ≡ chunk
-  pub goes : (start : RunStart) (bytes : List ℕ) → IsAfter alone start old before was bytes → IsAfter alone start new after now (bytes ++ done)
+  pub goes : (start : RunStart) (bytes : List ℕ) → IsAfterBytes alone start old before was bytes → IsAfterBytes alone start new after now (bytes ++ done)
 
 -- ---- the whole script
 
 -- It is within the bounds, and the answers to its lines are written, except for what is pending of them.
-pub record IsDone (alone : Bool) (start : RunStart) (log : List Entry) (now : Option (List ℕ)) (pending script : List ℕ) : Type 0 where
+pub record IsAnsweredWhole (alone : Bool) (start : RunStart) (log : List Entry) (now : Option (List ℕ)) (pending script : List ℕ) : Type 0 where
   pub within : Within start.bounds script
   pub answered : AreAnswered alone start (lines_of script) log now pending
 
@@ -90,7 +90,7 @@ pub record StoppedAtLast (alone : Bool) (start : RunStart) (fault : ScriptFault)
 pub record Reads (alone : Bool) (start : RunStart) (script : Script) (log : List Entry) (from to now : Option (List ℕ)) : Type 0 where
   pub bytes : List ℕ
   pub consumed : Consumes from to bytes
-  pub after : IsAfter alone start script log now bytes
+  pub after : IsAfterBytes alone start script log now bytes
 
 -- It gave these bytes, and the run stopped: in the lines that were read whole or, after the reader's end, in all lines. A read
 -- failed, or the script is too large, or a write failed, or nobody answers any more.
@@ -108,7 +108,7 @@ pub record RanToEnd (alone : Bool) (format : Format) (bounds : Bounds) (log_befo
   pub script : List ℕ
   pub consumed : Consumes before.remaining after.remaining script
   pub ended : IsAtEnd after.remaining
-  pub done : IsDone alone (run_start format log_before bounds before.contents) log_after after.contents [] script
+  pub done : IsAnsweredWhole alone (run_start format log_before bounds before.contents) log_after after.contents [] script
   pub quiet : NoCallFailed before after
 
 -- This fault stopped the answering of the script.

@@ -1,10 +1,11 @@
 -- What is written for lines, of which those up to some version are read, whoever answers their commands.
 use Rattle.std.specs.Prelude.{◌≡◌, ℕ, ◌≤◌, List, [], ◌∷◌, ◌++◌, length, Bool, false, Option, Some, None, Ok}
 use Rattle.pgp_ids.specs.declared.entry.Entry.{Entry}
-use Rattle.pgp_text.specs.Command.{command_of}
-use Rattle.pgp_text.specs.LineFault.{LineFault}
+use Rattle.pgp_lines.specs.Command.{command_of}
+use Rattle.pgp_lines.specs.LineFault.{LineFault}
 use Rattle.pgp_text.specs.Reply.{reply_text, fault_text}
-use Rattle.pgp_text.specs.Commands.{Command, Format}
+use Rattle.pgp_lines.specs.declared.command.Command.{Command}
+use Rattle.pgp_lines.specs.declared.command.format.Format.{Format}
 use Rattle.pgp_core.specs.Answer.{reply_of, log_after, line_text, line_log}
 use Rattle.pgp_core.specs.Answerer.{MayAnswerBy}
 use Rattle.pgp_core.specs.Script.{MayMeet, answer, log_past, longest_line}

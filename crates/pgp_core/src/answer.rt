@@ -1,14 +1,14 @@
 //! The answer to a line, as text.
 ghost use Rattle.std.specs.Prelude.{◌≡◌, ◌≢◌, ◌≤◌, ◌+◌, ◌++◌, ◌∷◌, [], length, take, option_copied, option_map, vec_len, vec_capacity, true, false, IsOk, IfErr, OnOk, OnErr};
-ghost use Rattle.pgp_text.specs.Command.{IsInRange};
+ghost use Rattle.pgp_lines.specs.Command.{IsInRange};
 ghost use Rattle.pgp_text.specs.Reply.{reply_text};
 ghost use Rattle.pgp_group.specs.Touched.{view_at};
 ghost use Rattle.pgp_core.specs.Answer.{asked_reply};
-ghost use Rattle.pgp_core.specs.Answerer.{MayAnswerBy, is_accepted};
+ghost use Rattle.pgp_core.specs.Answerer.{MayAnswerBy, says_accepted};
 ghost use Rattle.pgp_core.specs.Lines.{is_blank};
 ghost use Rattle.pgp_core.specs.Script.{longest_line};
 ghost use Rattle.pgp_core.specs.WrittenFor.{PutsFault, PutsReply, PutsText, MayLack};
-ghost use Rattle.pgp_text.specs.LineFault.{line_fault_of};
+ghost use Rattle.pgp_lines.specs.LineFault.{line_fault_of};
 ghost use Rattle.pgp_core.specs.Wants.{LacksReply, want_of};
 
 use super::accepted::{LONGEST_ACCEPTED, put_accepted};
@@ -17,7 +17,8 @@ use super::codec::Codec;
 use super::replies::asked_reply;
 use super::want::Want;
 use pgp_ids::{Epoch, PgId, TextFault, View};
-use pgp_text::{Command, LineRefusal, Reply, ReplyWriter};
+use pgp_lines::Command;
+use pgp_text::{LineRefusal, Reply, ReplyWriter};
 use std::alloc::{AllocError, Global};
 
 /// Puts the answer to a line that isn't blank and not too long behind the text, with a line feed.
@@ -132,7 +133,7 @@ pub fn put_reply(
 ) -> Result<(), AllocError>
     ensures ok { OnOk result (text.new.items ≡ text.old.items ++ (reply_text reply.now ++ 10 ∷ [])) }
     ensures err { OnErr result (text.new.items ≡ text.old.items) }
-    ensures sure { is_accepted reply.now ≡ true → vec_len text.old + LONGEST_ACCEPTED ≤ vec_capacity text.old → IsOk result }
+    ensures sure { says_accepted reply.now ≡ true → vec_len text.old + LONGEST_ACCEPTED ≤ vec_capacity text.old → IsOk result }
 {
     match reply {
         Reply::Accepted { op, count, epoch } => put_accepted(text, *op, *count, *epoch),

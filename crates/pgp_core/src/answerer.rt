@@ -2,8 +2,8 @@
 
 ghost use Rattle.std.specs.Prelude.{◌≡◌, Bool, true, List, IfOk, IfErr, OnOk, OnErr};
 ghost use Rattle.pgp_ids.specs.declared.entry.Entry.{Entry};
-ghost use Rattle.pgp_text.specs.Command.{IsInRange};
-ghost use Rattle.pgp_text.specs.Commands.{Ask};
+ghost use Rattle.pgp_lines.specs.Command.{IsInRange};
+ghost use Rattle.pgp_lines.specs.declared.command.Command.TheVariants.{Ask};
 ghost use Rattle.pgp_core.specs.Answerer.{MayAnswerBy, Replies};
 ghost use Rattle.pgp_core.specs.WrittenFor.{PutsReply};
 ghost use Rattle.pgp_core.specs.Wants.{LacksReply, MayFindNone};
@@ -11,7 +11,8 @@ ghost use Rattle.pgp_core.specs.Wants.{LacksReply, MayFindNone};
 use super::answer::put_reply;
 use super::want::Want;
 use pgp_ids::PgId;
-use pgp_text::{Command, Reply, ReplyWriter};
+use pgp_lines::Command;
+use pgp_text::{Reply, ReplyWriter};
 use std::alloc::{AllocError, Global};
 
 /// Why a command has no reply, and its line no answer.

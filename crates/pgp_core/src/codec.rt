@@ -2,7 +2,8 @@
 
 ghost use Rattle.std.specs.Prelude.{◌≡◌};
 
-use pgp_text::{Format, LineReader, ReplyWriter};
+use pgp_lines::{Format, LineReader};
+use pgp_text::ReplyWriter;
 use std::alloc::Global;
 
 /// Reads lines and writes replies.

@@ -9,7 +9,7 @@ ghost use Rattle.pgp_core.specs.TraceHistory.{trace_history};
 use pgp_code::AnyCode;
 use pgp_ids::{Epoch, EpochState};
 use pgp_interval::Intervals;
-use pgp_text::MAX_EPOCHS;
+use pgp_lines::MAX_EPOCHS;
 use std::alloc::{AllocError, Global};
 use std::vec::IntoIter;
 

@@ -30,7 +30,7 @@ pub use line::{LONGEST_LINE, all_blank};
 pub use log::Log;
 pub use outcome::LineOutcome;
 pub use output::{WriteFault, pass_on};
-pub use pgp_text::Format;
+pub use pgp_lines::Format;
 pub use replies::{asked_reply, traced_reply};
 pub use script::{answer_script, run_script, run_script_within};
 pub use session::Session;

@@ -2,7 +2,7 @@
 
 ghost use Rattle.std.specs.Prelude.{◌≡◌, ◌≤◌, ℕ, List, [], ◌∷◌, ◌++◌, IfSome, None, false, length};
 ghost use Rattle.pgp_core.specs.Answer.{long_text};
-ghost use Rattle.pgp_core.specs.Line.{KeptBy, Holds};
+ghost use Rattle.pgp_core.specs.Line.{KeptBy, HoldsLine};
 ghost use Rattle.pgp_core.specs.Lines.{is_blank};
 ghost use Rattle.pgp_core.specs.Script.{longest_line, want_text};
 ghost use Rattle.pgp_core.specs.WrittenFor.{IsLeft, PutsLine};
@@ -66,7 +66,7 @@ pub fn want_line(want: Want) -> &'static [u8]
 
 impl LineBuffer {
     pub fn new(alloc: Global) -> Self
-        ensures { Holds result [] }
+        ensures { HoldsLine result [] }
     {
         LineBuffer {
             bytes: Vec::new(alloc),
@@ -78,7 +78,7 @@ impl LineBuffer {
 
     /// Begins a new line.
     pub fn clear(&mut self)
-        ensures { Holds self.new [] }
+        ensures { HoldsLine self.new [] }
     {
         self.bytes.clear();
         self.fate = Fate::Kept;
@@ -88,7 +88,7 @@ impl LineBuffer {
 
     /// Appends bytes of the line, none of them a line feed.
     pub fn add(&mut self, piece: &[u8])
-        ensures { (line : List ℕ) → Holds self.old line → Holds self.new (line ++ piece.now) }
+        ensures { (line : List ℕ) → HoldsLine self.old line → HoldsLine self.new (line ++ piece.now) }
     {
         self.started = self.started || !piece.is_empty();
         self.blank = self.blank && all_blank(piece);
@@ -107,9 +107,9 @@ impl LineBuffer {
         answerer: &mut A,
         text: &mut Vec<u8>,
     ) -> Option<&'static [u8]>
-        ensures put { IfSome result (λ rest. (line : List ℕ) → Holds self.old line
+        ensures put { IfSome result (λ rest. (line : List ℕ) → HoldsLine self.old line
             → PutsLine A.alone codec.old.reader.format (A.log answerer.old) (A.log answerer.new) (line ++ piece.now) text.old.items text.new.items rest.now) }
-        ensures left { result ≡ None → (line : List ℕ) → Holds self.old line → IsLeft A.alone codec.old.reader.format (line ++ piece.now) }
+        ensures left { result ≡ None → (line : List ℕ) → HoldsLine self.old line → IsLeft A.alone codec.old.reader.format (line ++ piece.now) }
         ensures text { result ≡ None → text.new.items ≡ text.old.items }
         ensures format { codec.new.reader.format ≡ codec.old.reader.format }
     {
@@ -132,9 +132,9 @@ impl LineBuffer {
         answerer: &mut A,
         text: &mut Vec<u8>,
     ) -> Option<&'static [u8]>
-        ensures put { IfSome result (λ rest. (line : List ℕ) → Holds self.now line
+        ensures put { IfSome result (λ rest. (line : List ℕ) → HoldsLine self.now line
             → PutsLine A.alone codec.old.reader.format (A.log answerer.old) (A.log answerer.new) line text.old.items text.new.items rest.now) }
-        ensures left { result ≡ None → (line : List ℕ) → Holds self.now line → IsLeft A.alone codec.old.reader.format line }
+        ensures left { result ≡ None → (line : List ℕ) → HoldsLine self.now line → IsLeft A.alone codec.old.reader.format line }
         ensures text { result ≡ None → text.new.items ≡ text.old.items }
         ensures format { codec.new.reader.format ≡ codec.old.reader.format }
     {

@@ -1,14 +1,15 @@
 //! What a line of a script is to a log that takes its entries and answers nothing.
 
 ghost use Rattle.std.specs.Prelude.{◌≡◌, ◌≢◌, ℕ, List, IfOk, OnErr};
-ghost use Rattle.pgp_text.specs.Commands.{Ask, Locate, Submit};
+ghost use Rattle.pgp_lines.specs.declared.command.Command.TheVariants.{Ask, Locate, Submit};
 ghost use Rattle.pgp_core.specs.Added.{IsOutcome, IsOutcomeOf, added_by, taken_from, with_added};
 ghost use Rattle.pgp_core.specs.Wants.{MayFindNone, MayLackEntry, TakesMemory};
 
 use super::line::{LONGEST_LINE, all_blank};
 use super::log::Log;
 use pgp_ids::{AskRefusal, Entry, LocateRefusal, PgId, PoolId, TextFault};
-use pgp_text::{Command, LineReader, LineRefusal};
+use pgp_lines::{Command, LineReader};
+use pgp_text::LineRefusal;
 use std::alloc::{AllocError, Global};
 
 /// What a line of a script is to the log before it.

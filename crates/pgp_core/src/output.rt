@@ -29,27 +29,14 @@ impl Output {
         }
     }
 
-    /// Writes what is pending.
-    pub fn flush<W: Sink>(&mut self, writer: &mut W) -> Result<(), WriteFault>
-        ensures ok { OnOk result (Appends (W.contents writer.old) (W.contents writer.new) self.old.pending.items) }
-        ensures empty { OnOk result (self.new.pending.items ≡ []) }
-        ensures err { OnErr result (FrontWent (W.contents writer.old) (W.contents writer.new) self.old.pending.items) }
-        ensures failed { OnErr result (W.failed writer.new ≡ true) }
-        ensures kept { OnOk result (W.failed writer.new ≡ W.failed writer.old) }
-    {
-        write_out(writer, self.pending.as_slice())?;
-        self.pending.clear();
-        Ok(())
-    }
-
     /// Writes what is pending, and has the writer pass it on.
-    pub fn close<W: Sink>(&mut self, writer: &mut W) -> Result<(), WriteFault>
-        ensures ok { OnOk result (Appends (W.contents writer.old) (W.contents writer.new) self.old.pending.items) }
+    pub fn flush<W: Sink>(&mut self, writer: &mut W) -> Result<(), WriteFault>
+        ensures ok { OnOk result (Appends (W.state writer.old).contents (W.state writer.new).contents self.old.pending.items) }
         ensures empty { OnOk result (self.new.pending.items ≡ []) }
-        ensures err { OnErr result (FrontWent (W.contents writer.old) (W.contents writer.new) self.old.pending.items) }
-        ensures failed { OnErr result (W.failed writer.new ≡ true) }
-        ensures kept { OnOk result (W.failed writer.new ≡ W.failed writer.old) }
-        ensures passed_on { OnOk result (W.passed_on writer.new ≡ true) }
+        ensures err { OnErr result (FrontWent (W.state writer.old).contents (W.state writer.new).contents self.old.pending.items) }
+        ensures failed { OnErr result ((W.state writer.new).failed ≡ true) }
+        ensures kept { OnOk result ((W.state writer.new).failed ≡ (W.state writer.old).failed) }
+        ensures passed_on { OnOk result ((W.state writer.new).passed_on ≡ true) }
     {
         pass_on(writer, self.pending.as_slice())?;
         self.pending.clear();
@@ -58,12 +45,12 @@ impl Output {
 
     /// Puts text after what is pending. Where there is no memory for it, all of it is written at once.
     pub fn put<W: Sink>(&mut self, text: &[u8], writer: &mut W) -> Result<(), WriteFault>
-        ensures ok { OnOk result (WrittenPart (W.contents writer.old) (W.contents writer.new)
+        ensures ok { OnOk result (WrittenPart (W.state writer.old).contents (W.state writer.new).contents
             (self.old.pending.items ++ text.now) self.new.pending.items) }
-        ensures err { OnErr result (FrontWent (W.contents writer.old) (W.contents writer.new)
+        ensures err { OnErr result (FrontWent (W.state writer.old).contents (W.state writer.new).contents
             (self.old.pending.items ++ text.now)) }
-        ensures failed { OnErr result (W.failed writer.new ≡ true) }
-        ensures kept { OnOk result (W.failed writer.new ≡ W.failed writer.old) }
+        ensures failed { OnErr result ((W.state writer.new).failed ≡ true) }
+        ensures kept { OnOk result ((W.state writer.new).failed ≡ (W.state writer.old).failed) }
     {
         match self.pending.extend_from_slice(text) {
             Ok(()) if self.pending.len() <= PENDING_LIMIT => Ok(()),
@@ -78,10 +65,10 @@ impl Output {
 
 /// Writes all of `text`.
 fn write_out<W: Sink>(writer: &mut W, text: &[u8]) -> Result<(), WriteFault>
-    ensures ok { OnOk result (Appends (W.contents writer.old) (W.contents writer.new) text.now) }
-    ensures err { OnErr result (FrontWent (W.contents writer.old) (W.contents writer.new) text.now) }
-    ensures failed { OnErr result (W.failed writer.new ≡ true) }
-    ensures kept { OnOk result (W.failed writer.new ≡ W.failed writer.old) }
+    ensures ok { OnOk result (Appends (W.state writer.old).contents (W.state writer.new).contents text.now) }
+    ensures err { OnErr result (FrontWent (W.state writer.old).contents (W.state writer.new).contents text.now) }
+    ensures failed { OnErr result ((W.state writer.new).failed ≡ true) }
+    ensures kept { OnOk result ((W.state writer.new).failed ≡ (W.state writer.old).failed) }
 {
     let mut rest = text;
     while !rest.is_empty() {
@@ -98,11 +85,11 @@ fn write_out<W: Sink>(writer: &mut W, text: &[u8]) -> Result<(), WriteFault>
 
 /// Writes all of `text`, and has the writer pass it on.
 pub fn pass_on<W: Sink>(writer: &mut W, text: &[u8]) -> Result<(), WriteFault>
-    ensures ok { OnOk result (Appends (W.contents writer.old) (W.contents writer.new) text.now) }
-    ensures err { OnErr result (FrontWent (W.contents writer.old) (W.contents writer.new) text.now) }
-    ensures failed { OnErr result (W.failed writer.new ≡ true) }
-    ensures kept { OnOk result (W.failed writer.new ≡ W.failed writer.old) }
-    ensures passed_on { OnOk result (W.passed_on writer.new ≡ true) }
+    ensures ok { OnOk result (Appends (W.state writer.old).contents (W.state writer.new).contents text.now) }
+    ensures err { OnErr result (FrontWent (W.state writer.old).contents (W.state writer.new).contents text.now) }
+    ensures failed { OnErr result ((W.state writer.new).failed ≡ true) }
+    ensures kept { OnOk result ((W.state writer.new).failed ≡ (W.state writer.old).failed) }
+    ensures passed_on { OnOk result ((W.state writer.new).passed_on ≡ true) }
 {
     write_out(writer, text)?;
     writer.flush().or(Err(WriteFault))

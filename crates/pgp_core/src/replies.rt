@@ -5,7 +5,8 @@ ghost use Rattle.pgp_core.specs.Answer.{asked_reply, traced_reply};
 use super::history::history;
 use pgp_code::AnyCode;
 use pgp_ids::{AskRefusal, Epoch, EpochState, PgId, PoolKind, Seq, View};
-use pgp_text::{LineRefusal, MAX_EPOCHS, Reply};
+use pgp_lines::MAX_EPOCHS;
+use pgp_text::{LineRefusal, Reply};
 use std::alloc::{AllocError, Global};
 
 /// The reply to a question about a group of which this is said.

@@ -5,10 +5,10 @@ ghost use Rattle.std.specs.List.{list_any};
 ghost use Rattle.std.specs.Io.KnownBytes.{IsAtEnd};
 ghost use Rattle.pgp_ids.specs.declared.entry.Entry.{Entry};
 ghost use Rattle.pgp_core.specs.Lines.{is_line_feed};
-ghost use Rattle.pgp_core.specs.Line.{Holds};
+ghost use Rattle.pgp_core.specs.Line.{HoldsLine};
 ghost use Rattle.pgp_core.specs.Account.{account, ReadsFailed, WritesFailed, WriteFailedBy};
 ghost use Rattle.pgp_core.specs.Run.{AllAnswered, Stopped, bounds_of, script_bounds};
-ghost use Rattle.pgp_core.specs.Telling.{AreAnswered, RunStart, IsAfter, IsDone, IsStopped, StoppedAtLast, WentBy, StopsIn, Reads, Stops, RanToEnd, WasStopped, run_start};
+ghost use Rattle.pgp_core.specs.Telling.{AreAnswered, RunStart, IsAfterBytes, IsAnsweredWhole, IsStopped, StoppedAtLast, WentBy, StopsIn, Reads, Stops, RanToEnd, WasStopped, run_start};
 
 use super::answerer::Answerer;
 use super::codec::Codec;
@@ -17,7 +17,7 @@ use super::input::{Bounds, Input, SCRIPT_BOUNDS, split_line};
 use super::log::Log;
 use super::output::Output;
 use super::streams::{Sink, Source};
-use pgp_text::Format;
+use pgp_lines::Format;
 use std::alloc::Global;
 
 /// How many bytes a read asks for.
@@ -44,7 +44,7 @@ impl Script {
     fn new(alloc: Global, format: Format, bounds: Bounds) -> Self
         ensures left { result.input.left ≡ bounds }
         ensures start { (alone : Bool) (log : List Entry) (written : Option (List ℕ))
-            → IsAfter alone (run_start format log bounds written) result log written [] }
+            → IsAfterBytes alone (run_start format log bounds written) result log written [] }
     {
         Script {
             input: Input::new(alloc, bounds),
@@ -62,14 +62,14 @@ impl Script {
         answerer: &mut A,
         writer: &mut W,
     ) -> Result<(), ScriptFault>
-        ensures ok { OnOk result ((line : List ℕ) → Holds self.old.input.line line → (start : RunStart) (lines : List (List ℕ))
-            → self.old.codec.reader.format ≡ start.format → AreAnswered A.alone start lines (A.log answerer.old) (W.contents writer.old) self.old.output.pending.items
-            → AreAnswered A.alone start (lines ++ (line ++ piece.now) ∷ []) (A.log answerer.new) (W.contents writer.new) self.new.output.pending.items) }
-        ensures err { IfErr result (λ fault. (line : List ℕ) → Holds self.old.input.line line → (start : RunStart) (lines others : List (List ℕ))
-            → self.old.codec.reader.format ≡ start.format → AreAnswered A.alone start lines (A.log answerer.old) (W.contents writer.old) self.old.output.pending.items
-            → (fault ≢ ScriptFault.Read) × IsStopped A.alone start fault (W.contents writer.new) (lines ++ (line ++ piece.now) ∷ others)) }
-        ensures failed { WritesFailed result (W.failed writer.old) (W.failed writer.new) }
-        ensures passed_on { IfErr result (λ fault. fault ≢ ScriptFault.Write → W.passed_on writer.new ≡ true) }
+        ensures ok { OnOk result ((line : List ℕ) → HoldsLine self.old.input.line line → (start : RunStart) (lines : List (List ℕ))
+            → self.old.codec.reader.format ≡ start.format → AreAnswered A.alone start lines (A.log answerer.old) (W.state writer.old).contents self.old.output.pending.items
+            → AreAnswered A.alone start (lines ++ (line ++ piece.now) ∷ []) (A.log answerer.new) (W.state writer.new).contents self.new.output.pending.items) }
+        ensures err { IfErr result (λ fault. (line : List ℕ) → HoldsLine self.old.input.line line → (start : RunStart) (lines others : List (List ℕ))
+            → self.old.codec.reader.format ≡ start.format → AreAnswered A.alone start lines (A.log answerer.old) (W.state writer.old).contents self.old.output.pending.items
+            → (fault ≢ ScriptFault.Read) × IsStopped A.alone start fault (W.state writer.new).contents (lines ++ (line ++ piece.now) ∷ others)) }
+        ensures failed { WritesFailed result (W.state writer.old).failed (W.state writer.new).failed }
+        ensures passed_on { IfErr result (λ fault. fault ≢ ScriptFault.Write → (W.state writer.new).passed_on ≡ true) }
         ensures left { self.new.input.left ≡ self.old.input.left }
         ensures format { self.new.codec.reader.format ≡ self.old.codec.reader.format }
     {
@@ -81,7 +81,7 @@ impl Script {
             &mut self.output.pending,
         );
         let Some(rest) = answer else {
-            self.output.close(writer)?;
+            self.output.flush(writer)?;
             return Err(ScriptFault::Gone);
         };
         self.output.put(rest, writer)?;
@@ -90,12 +90,12 @@ impl Script {
 
     /// Writes what is pending, and says which fault ends the script: that of the write comes first.
     fn stop_reading<W: Sink>(&mut self, writer: &mut W) -> ScriptFault
-        ensures went { WentBy result (W.contents writer.old) (W.contents writer.new) self.old.output.pending.items }
+        ensures went { WentBy result (W.state writer.old).contents (W.state writer.new).contents self.old.output.pending.items }
         ensures not_gone { result ≢ ScriptFault.Gone }
-        ensures failed { WriteFailedBy result (W.failed writer.old) (W.failed writer.new) }
-        ensures passed_on { result ≢ ScriptFault.Write → W.passed_on writer.new ≡ true }
+        ensures failed { WriteFailedBy result (W.state writer.old).failed (W.state writer.new).failed }
+        ensures passed_on { result ≢ ScriptFault.Write → (W.state writer.new).passed_on ≡ true }
     {
-        match self.output.close(writer) {
+        match self.output.flush(writer) {
             Ok(()) => ScriptFault::Read,
             Err(_) => ScriptFault::Write,
         }
@@ -114,13 +114,13 @@ impl Script {
         requires fits { length piece.now < self.old.input.left.bytes }
         ensures left { OnOk result (self.new.input.left.bytes + (length piece.now + 1) ≡ self.old.input.left.bytes) }
         ensures ok { OnOk result ((start : RunStart) (bytes : List ℕ)
-            → IsAfter A.alone start self.old (A.log answerer.old) (W.contents writer.old) bytes
-            → IsAfter A.alone start self.new (A.log answerer.new) (W.contents writer.new) (bytes ++ (piece.now ++ 10 ∷ []))) }
+            → IsAfterBytes A.alone start self.old (A.log answerer.old) (W.state writer.old).contents bytes
+            → IsAfterBytes A.alone start self.new (A.log answerer.new) (W.state writer.new).contents (bytes ++ (piece.now ++ 10 ∷ []))) }
         ensures err { IfErr result (λ fault. (start : RunStart) (bytes more : List ℕ)
-            → IsAfter A.alone start self.old (A.log answerer.old) (W.contents writer.old) bytes
-            → StopsIn A.alone start fault (W.contents writer.new) (bytes ++ (piece.now ++ 10 ∷ more))) }
-        ensures failed { WritesFailed result (W.failed writer.old) (W.failed writer.new) }
-        ensures passed_on { IfErr result (λ fault. fault ≢ ScriptFault.Write → W.passed_on writer.new ≡ true) }
+            → IsAfterBytes A.alone start self.old (A.log answerer.old) (W.state writer.old).contents bytes
+            → StopsIn A.alone start fault (W.state writer.new).contents (bytes ++ (piece.now ++ 10 ∷ more))) }
+        ensures failed { WritesFailed result (W.state writer.old).failed (W.state writer.new).failed }
+        ensures passed_on { IfErr result (λ fault. fault ≢ ScriptFault.Write → (W.state writer.new).passed_on ≡ true) }
     {
         self.put_answer(alloc, piece, answerer, writer)?;
         self.input.end_line(piece);
@@ -139,13 +139,13 @@ impl Script {
     ) -> Result<(), ScriptFault>
         ensures left { OnOk result (self.new.input.left.bytes + length chunk.now ≡ self.old.input.left.bytes) }
         ensures ok { OnOk result ((start : RunStart) (bytes : List ℕ)
-            → IsAfter A.alone start self.old (A.log answerer.old) (W.contents writer.old) bytes
-            → IsAfter A.alone start self.new (A.log answerer.new) (W.contents writer.new) (bytes ++ chunk.now)) }
+            → IsAfterBytes A.alone start self.old (A.log answerer.old) (W.state writer.old).contents bytes
+            → IsAfterBytes A.alone start self.new (A.log answerer.new) (W.state writer.new).contents (bytes ++ chunk.now)) }
         ensures err { IfErr result (λ fault. (start : RunStart) (bytes : List ℕ)
-            → IsAfter A.alone start self.old (A.log answerer.old) (W.contents writer.old) bytes
-            → StopsIn A.alone start fault (W.contents writer.new) (bytes ++ chunk.now)) }
-        ensures failed { WritesFailed result (W.failed writer.old) (W.failed writer.new) }
-        ensures passed_on { IfErr result (λ fault. fault ≢ ScriptFault.Write → W.passed_on writer.new ≡ true) }
+            → IsAfterBytes A.alone start self.old (A.log answerer.old) (W.state writer.old).contents bytes
+            → StopsIn A.alone start fault (W.state writer.new).contents (bytes ++ chunk.now)) }
+        ensures failed { WritesFailed result (W.state writer.old).failed (W.state writer.new).failed }
+        ensures passed_on { IfErr result (λ fault. fault ≢ ScriptFault.Write → (W.state writer.new).passed_on ≡ true) }
     {
         let mut rest = chunk;
         while !rest.is_empty() {
@@ -175,13 +175,13 @@ impl Script {
         writer: &mut W,
     ) -> Result<(), ScriptFault>
         ensures ok { OnOk result ((start : RunStart) (bytes : List ℕ)
-            → IsAfter A.alone start self.old (A.log answerer.old) (W.contents writer.old) bytes
-            → IsDone A.alone start (A.log answerer.new) (W.contents writer.new) self.new.output.pending.items bytes) }
+            → IsAfterBytes A.alone start self.old (A.log answerer.old) (W.state writer.old).contents bytes
+            → IsAnsweredWhole A.alone start (A.log answerer.new) (W.state writer.new).contents self.new.output.pending.items bytes) }
         ensures err { IfErr result (λ fault. (start : RunStart) (bytes : List ℕ)
-            → IsAfter A.alone start self.old (A.log answerer.old) (W.contents writer.old) bytes
-            → StoppedAtLast A.alone start fault (W.contents writer.new) bytes) }
-        ensures failed { WritesFailed result (W.failed writer.old) (W.failed writer.new) }
-        ensures passed_on { IfErr result (λ fault. fault ≢ ScriptFault.Write → W.passed_on writer.new ≡ true) }
+            → IsAfterBytes A.alone start self.old (A.log answerer.old) (W.state writer.old).contents bytes
+            → StoppedAtLast A.alone start fault (W.state writer.new).contents bytes) }
+        ensures failed { WritesFailed result (W.state writer.old).failed (W.state writer.new).failed }
+        ensures passed_on { IfErr result (λ fault. fault ≢ ScriptFault.Write → (W.state writer.new).passed_on ≡ true) }
     {
         if self.input.line.started {
             self.put_answer(alloc, &[], answerer, writer)
@@ -198,16 +198,16 @@ impl Script {
         writer: &mut W,
     ) -> Result<(), ScriptFault>
         ensures ok { OnOk result ((start : RunStart) (bytes : List ℕ)
-            → IsAfter A.alone start self.old (A.log answerer.old) (W.contents writer.old) bytes
-            → IsDone A.alone start (A.log answerer.new) (W.contents writer.new) [] bytes) }
+            → IsAfterBytes A.alone start self.old (A.log answerer.old) (W.state writer.old).contents bytes
+            → IsAnsweredWhole A.alone start (A.log answerer.new) (W.state writer.new).contents [] bytes) }
         ensures err { IfErr result (λ fault. (start : RunStart) (bytes : List ℕ)
-            → IsAfter A.alone start self.old (A.log answerer.old) (W.contents writer.old) bytes
-            → StoppedAtLast A.alone start fault (W.contents writer.new) bytes) }
-        ensures failed { WritesFailed result (W.failed writer.old) (W.failed writer.new) }
-        ensures passed_on { result ≢ Err ScriptFault.Write → W.passed_on writer.new ≡ true }
+            → IsAfterBytes A.alone start self.old (A.log answerer.old) (W.state writer.old).contents bytes
+            → StoppedAtLast A.alone start fault (W.state writer.new).contents bytes) }
+        ensures failed { WritesFailed result (W.state writer.old).failed (W.state writer.new).failed }
+        ensures passed_on { result ≢ Err ScriptFault.Write → (W.state writer.new).passed_on ≡ true }
     {
         self.put_last(alloc, answerer, writer)?;
-        self.output.close(writer)?;
+        self.output.flush(writer)?;
         Ok(())
     }
 }
@@ -224,18 +224,18 @@ impl Script {
         writer: &mut W,
     ) -> Result<usize, ScriptFault>
         ensures ok { OnOk result ((start : RunStart) (from : Option (List ℕ))
-            → Reads A.alone start self.old (A.log answerer.old) from (R.remaining reader.old) (W.contents writer.old)
-            → Reads A.alone start self.new (A.log answerer.new) from (R.remaining reader.new) (W.contents writer.new)) }
+            → Reads A.alone start self.old (A.log answerer.old) from (R.state reader.old).remaining (W.state writer.old).contents
+            → Reads A.alone start self.new (A.log answerer.new) from (R.state reader.new).remaining (W.state writer.new).contents) }
         ensures left { IfOk result (λ count. self.new.input.left.bytes + count ≡ self.old.input.left.bytes) }
-        ensures end { IfOk result (λ count. count ≡ 0 → 0 < length chunk.old → IsAtEnd (R.remaining reader.new)) }
+        ensures end { IfOk result (λ count. count ≡ 0 → 0 < length chunk.old → IsAtEnd (R.state reader.new).remaining) }
         ensures err { IfErr result (λ fault. (start : RunStart) (from : Option (List ℕ))
-            → Reads A.alone start self.old (A.log answerer.old) from (R.remaining reader.old) (W.contents writer.old)
-            → Stops A.alone start fault from (R.remaining reader.new) (W.contents writer.new) (R.failed reader.new)) }
-        ensures reads { ReadsFailed result (R.failed reader.old) (R.failed reader.new) }
-        ensures writes { WritesFailed result (W.failed writer.old) (W.failed writer.new) }
-        ensures passed_on { IfErr result (λ fault. fault ≢ ScriptFault.Write → W.passed_on writer.new ≡ true) }
+            → Reads A.alone start self.old (A.log answerer.old) from (R.state reader.old).remaining (W.state writer.old).contents
+            → Stops A.alone start fault from (R.state reader.new).remaining (W.state writer.new).contents (R.state reader.new).failed) }
+        ensures reads { ReadsFailed result (R.state reader.old).failed (R.state reader.new).failed }
+        ensures writes { WritesFailed result (W.state writer.old).failed (W.state writer.new).failed }
+        ensures passed_on { IfErr result (λ fault. fault ≢ ScriptFault.Write → (W.state writer.new).passed_on ≡ true) }
     {
-        self.output.close(writer)?;
+        self.output.flush(writer)?;
         let count = match reader.read(chunk) {
             Ok(count) => count,
             Err(_) => return Err(ScriptFault::Read),
@@ -253,13 +253,13 @@ pub fn run_script<R: Source, W: Sink>(
     writer: &mut W,
 ) -> Result<(), ScriptFault>
     ensures ok { OnOk result (AllAnswered true format script_bounds
-        (account (R.remaining reader.old) (W.contents writer.old) (R.failed reader.old) (W.failed writer.old))
-        (account (R.remaining reader.new) (W.contents writer.new) (R.failed reader.new) (W.failed writer.new))) }
+        (account (R.state reader.old) (W.state writer.old))
+        (account (R.state reader.new) (W.state writer.new))) }
     ensures err { IfErr result (Stopped true format script_bounds
-        (account (R.remaining reader.old) (W.contents writer.old) (R.failed reader.old) (W.failed writer.old))
-        (account (R.remaining reader.new) (W.contents writer.new) (R.failed reader.new) (W.failed writer.new))) }
+        (account (R.state reader.old) (W.state writer.old))
+        (account (R.state reader.new) (W.state writer.new))) }
     ensures never_gone { result ≢ Err ScriptFault.Gone }
-    ensures passed_on { result ≢ Err ScriptFault.Write → W.passed_on writer.new ≡ true }
+    ensures passed_on { result ≢ Err ScriptFault.Write → (W.state writer.new).passed_on ≡ true }
 {
     run_script_within(
         alloc,
@@ -286,13 +286,13 @@ pub fn run_script_within<R: Source, W: Sink>(
     max_bytes: u64,
 ) -> Result<(), ScriptFault>
     ensures ok { OnOk result (AllAnswered true format (bounds_of max_lines max_bytes)
-        (account (R.remaining reader.old) (W.contents writer.old) (R.failed reader.old) (W.failed writer.old))
-        (account (R.remaining reader.new) (W.contents writer.new) (R.failed reader.new) (W.failed writer.new))) }
+        (account (R.state reader.old) (W.state writer.old))
+        (account (R.state reader.new) (W.state writer.new))) }
     ensures err { IfErr result (Stopped true format (bounds_of max_lines max_bytes)
-        (account (R.remaining reader.old) (W.contents writer.old) (R.failed reader.old) (W.failed writer.old))
-        (account (R.remaining reader.new) (W.contents writer.new) (R.failed reader.new) (W.failed writer.new))) }
+        (account (R.state reader.old) (W.state writer.old))
+        (account (R.state reader.new) (W.state writer.new))) }
     ensures never_gone { result ≢ Err ScriptFault.Gone }
-    ensures passed_on { result ≢ Err ScriptFault.Write → W.passed_on writer.new ≡ true }
+    ensures passed_on { result ≢ Err ScriptFault.Write → (W.state writer.new).passed_on ≡ true }
 {
     let bounds = Bounds {
         lines: max_lines,
@@ -314,12 +314,12 @@ pub fn answer_script<A: Answerer, R: Source, W: Sink>(
     bounds: Bounds,
 ) -> Result<(), ScriptFault>
     ensures ok { OnOk result (RanToEnd A.alone format bounds (A.log answerer.old) (A.log answerer.new)
-        (account (R.remaining reader.old) (W.contents writer.old) (R.failed reader.old) (W.failed writer.old))
-        (account (R.remaining reader.new) (W.contents writer.new) (R.failed reader.new) (W.failed writer.new))) }
+        (account (R.state reader.old) (W.state writer.old))
+        (account (R.state reader.new) (W.state writer.new))) }
     ensures err { IfErr result (WasStopped A.alone format bounds (A.log answerer.old)
-        (account (R.remaining reader.old) (W.contents writer.old) (R.failed reader.old) (W.failed writer.old))
-        (account (R.remaining reader.new) (W.contents writer.new) (R.failed reader.new) (W.failed writer.new))) }
-    ensures passed_on { result ≢ Err ScriptFault.Write → W.passed_on writer.new ≡ true }
+        (account (R.state reader.old) (W.state writer.old))
+        (account (R.state reader.new) (W.state writer.new))) }
+    ensures passed_on { result ≢ Err ScriptFault.Write → (W.state writer.new).passed_on ≡ true }
 {
     let mut chunk = [0u8; CHUNK];
     let mut script = Script::new(alloc, format, bounds);

@@ -3,7 +3,7 @@
 ghost use Rattle.std.specs.Prelude.{◌≡◌, [], map, is_some, true, OnOk, IfOk, OnErr};
 ghost use Rattle.std.specs.Arc.{arc_value};
 ghost use Rattle.pgp_log.specs.Log.{is_legal};
-ghost use Rattle.pgp_text.specs.Commands.{Locate, Submit};
+ghost use Rattle.pgp_lines.specs.declared.command.Command.TheVariants.{Locate, Submit};
 ghost use Rattle.pgp_core.specs.Script.{MayMeet, answer, log_past};
 ghost use Rattle.pgp_core.specs.Session.{LogAndAnswer, last_text, log_in, met_by, reply_in, view_in};
 ghost use Rattle.pgp_core.specs.Wants.{MayFindNone};
@@ -15,7 +15,8 @@ use super::line::{LONGEST_LINE, all_blank, long_line, want_line};
 use super::log::Log;
 use super::want::Want;
 use pgp_ids::{Entry, ObjectName, PgId, PoolId, View};
-use pgp_text::{Format, Reply};
+use pgp_lines::Format;
+use pgp_text::Reply;
 use std::alloc::{AllocError, Global};
 use std::marker::Model;
 use std::sync::Arc;

@@ -44,10 +44,10 @@ pub fn read_whole<R: Source>(
     reader: &mut R,
     bounds: Bounds,
 ) -> Result<Vec<u8>, WholeFault>
-    ensures ok { IfOk result (λ script. IsWholeScript bounds script.items (R.remaining reader.old) (R.remaining reader.new)) }
-    ensures read { result ≡ Err WholeFault.Read → R.failed reader.new ≡ true }
-    ensures large { result ≡ Err WholeFault.TooLarge → GivesTooMuch bounds (R.remaining reader.old) (R.remaining reader.new) }
-    ensures kept { result ≢ Err WholeFault.Read → R.failed reader.new ≡ R.failed reader.old }
+    ensures ok { IfOk result (λ script. IsWholeScript bounds script.items (R.state reader.old).remaining (R.state reader.new).remaining) }
+    ensures read { result ≡ Err WholeFault.Read → (R.state reader.new).failed ≡ true }
+    ensures large { result ≡ Err WholeFault.TooLarge → GivesTooMuch bounds (R.state reader.old).remaining (R.state reader.new).remaining }
+    ensures kept { result ≢ Err WholeFault.Read → (R.state reader.new).failed ≡ (R.state reader.old).failed }
 {
     let mut chunk = [0u8; CHUNK];
     let mut script = Vec::new(alloc);
@@ -69,13 +69,13 @@ fn read_more<R: Source>(
     requires few { length script.old.items ≤ bounds.bytes }
     ensures few { OnOk result (length script.new.items ≤ bounds.bytes) }
     ensures more { IfOk result (λ count. length script.new.items ≡ length script.old.items + count) }
-    ensures bytes { OnOk result ((from : Option (List ℕ)) → Consumes from (R.remaining reader.old) script.old.items
-        → Consumes from (R.remaining reader.new) script.new.items) }
-    ensures end { IfOk result (λ count. count ≡ 0 → 0 < length chunk.old → IsAtEnd (R.remaining reader.new)) }
-    ensures read { result ≡ Err WholeFault.Read → R.failed reader.new ≡ true }
-    ensures large { result ≡ Err WholeFault.TooLarge → (from : Option (List ℕ)) → Consumes from (R.remaining reader.old) script.old.items
-        → GivesTooMuch bounds from (R.remaining reader.new) }
-    ensures kept { result ≢ Err WholeFault.Read → R.failed reader.new ≡ R.failed reader.old }
+    ensures bytes { OnOk result ((from : Option (List ℕ)) → Consumes from (R.state reader.old).remaining script.old.items
+        → Consumes from (R.state reader.new).remaining script.new.items) }
+    ensures end { IfOk result (λ count. count ≡ 0 → 0 < length chunk.old → IsAtEnd (R.state reader.new).remaining) }
+    ensures read { result ≡ Err WholeFault.Read → (R.state reader.new).failed ≡ true }
+    ensures large { result ≡ Err WholeFault.TooLarge → (from : Option (List ℕ)) → Consumes from (R.state reader.old).remaining script.old.items
+        → GivesTooMuch bounds from (R.state reader.new).remaining }
+    ensures kept { result ≢ Err WholeFault.Read → (R.state reader.new).failed ≡ (R.state reader.old).failed }
 {
     let count = match reader.read(chunk) {
         Ok(count) => count,

@@ -5,7 +5,7 @@ use Rattle.std.specs.Prelude.{◌==◌, if◌then◌else◌}
 use Rattle.pgp_ids.specs.declared.entry.Entry.{Entry}
 use Rattle.pgp_log.specs.Log.{IsFrontOf}
 use Rattle.pgp_ids.specs.declared.pg_id.PgId.{PgId}
-use Rattle.pgp_log.specs.Shard.{AreUnmarked, Shard}
+use Rattle.pgp_shard.specs.Shard.{AreUnmarked, Shard}
 use Rattle.pgp_feed.proofs.Fronts.{front_trans}
 use Rattle.pgp_feed.specs.declared.receipt.Receipt.{Receipt}
 use Rattle.pgp_feed.specs.Receipts.{entries_of, Holds}

@@ -4,7 +4,7 @@ use Rattle.logbook.specs.Pages.{Book}
 use Rattle.pgp_ids.specs.declared.entry.Entry.{Entry}
 use Rattle.pgp_ids.specs.declared.pg_id.PgId.{PgId}
 use Rattle.pgp_log.specs.Log.{front, IsFrontOf}
-use Rattle.pgp_log.specs.Shard.{AreUnmarked, HasReadSame, Shard, is_own}
+use Rattle.pgp_shard.specs.Shard.{AreUnmarked, HasReadSame, Shard, is_own}
 use Rattle.pgp_feed.specs.declared.receipt.Receipt.{Receipt}
 use Rattle.pgp_feed.specs.Receipts.{entries_of, feed_of}
 use Rattle.pgp_engine.specs.Fronts.{Names}

@@ -2,7 +2,7 @@
 use crate::entry_buffer::EntryBuffer;
 use crate::naming::Naming;
 use pgp_feed::{Receipt, Tap};
-use pgp_log::ShardState;
+use pgp_shard::ShardState;
 use std::marker::{Model, PhantomData};
 
 mod reading;

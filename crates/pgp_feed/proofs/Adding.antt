@@ -9,7 +9,7 @@ use Rattle.logbook.specs.Pages.{Cell, Nib, nib, cell, keeps, gives, adds, may_ma
 use Rattle.pgp_ids.specs.declared.entry.Entry.{Entry}
 use Rattle.pgp_log.specs.Log.{is_legal}
 use Rattle.pgp_log.specs.Fits.{fits}
-use Rattle.pgp_feed.specs.Book.{IsKept, Adds, TakesTurn, turn_key}
+use Rattle.pgp_feed.specs.Book.{IsBookOf, Adds, TakesTurn, turn_key}
 use Rattle.pgp_log.proofs.LogLemmas.{legal-snoc}
 use Rattle.pgp_feed.proofs.Lengths.{legal-empty}
 
@@ -72,7 +72,7 @@ over_by turns n value k over there false is =
     at ∙ grind (arith, nat_tests)
 
 -- the rule of a book whose log is empty, and of which no turn was taken
-pub kept_at_first : IsKept ((0, true) ∷ (0, true) ∷ []) []
+pub kept_at_first : IsBookOf ((0, true) ∷ (0, true) ∷ []) []
 kept_at_first = record { turns = []; words = refl; over = λ k. sym (never_below k); few = omega arith; legal = legal-empty }
 
 -- the words of a book whose log has this length, with these turns
@@ -86,7 +86,7 @@ module _ (v : List Entry) (p : Nib) (e : Entry) (old : ℕ) (len : length v ≡ 
 
   abbrev Adding : List Cell → List Entry → Type 0
   Adding cs log = (0 < length cs) × ((cell cs 0).1 ≡ true)
-      × Goes IsKept shown moved 0 (v, (p, None)) next_length (Adds (step 0 old (old + 1) e) (v, (p, None))) cs log
+      × Goes IsBookOf shown moved 0 (v, (p, None)) next_length (Adds (step 0 old (old + 1) e) (v, (p, None))) cs log
 
   adds_goes : (turns : List Cell) (log : List Entry) → ((k : ℕ) → (cell turns k).1 ≡ nat_lt k (length log)) → length turns ≤ length log + 1
       → is_legal log ≡ true → v ≡ log → old < length turns → Adding (words (length log) turns) log
@@ -115,7 +115,7 @@ module _ (v : List Entry) (p : Nib) (e : Entry) (old : ℕ) (len : length v ≡ 
       )
 
   -- whatever the book is, the exchange adds the entry to all that was seen
-  pub adds_moves : Moves IsKept shown moved 0 (v, (p, None)) next_length (Adds (step 0 old (old + 1) e) (v, (p, None)))
+  pub adds_moves : Moves IsBookOf shown moved 0 (v, (p, None)) next_length (Adds (step 0 old (old + 1) e) (v, (p, None)))
   adds_moves cs log kept pre away =
       let is = kept.words in
       let out = away right in
@@ -133,7 +133,7 @@ module _ (v : List Entry) (e : Entry) (old : ℕ) (seen : old ≤ length v) wher
 
   abbrev Taking : List Cell → List Entry → Type 0
   Taking cs log = (1 < length cs) × ((cell cs 1).1 ≡ true)
-      × Goes IsKept shown moved 1 (v, (no_nib, None)) next_taken (TakesTurn (step 1 old (old + 1) e) (v, (no_nib, None))) cs log
+      × Goes IsBookOf shown moved 1 (v, (no_nib, None)) next_taken (TakesTurn (step 1 old (old + 1) e) (v, (no_nib, None))) cs log
 
   takes_goes : (turns : List Cell) (log : List Entry) → ((k : ℕ) → (cell turns k).1 ≡ nat_lt k (length log)) → length turns ≤ length log + 1
       → is_legal log ≡ true → length v ≤ length log → (b : Bool) → (length turns == old) ≡ b → Taking (words (length log) turns) log
@@ -178,7 +178,7 @@ module _ (v : List Entry) (e : Entry) (old : ℕ) (seen : old ≤ length v) wher
       )
 
   -- whatever the book is, the exchange takes the turn after what was seen, or finds another number
-  pub takes_moves : Moves IsKept shown moved 1 (v, (no_nib, None)) next_taken (TakesTurn (step 1 old (old + 1) e) (v, (no_nib, None)))
+  pub takes_moves : Moves IsBookOf shown moved 1 (v, (no_nib, None)) next_taken (TakesTurn (step 1 old (old + 1) e) (v, (no_nib, None)))
   takes_moves cs log kept pre away =
       subst (λ (c : List Cell). Taking c log) (sym kept.words)
       (takes_goes kept.turns log kept.over kept.few kept.legal (prefix_short v log pre) (length kept.turns == old) refl)

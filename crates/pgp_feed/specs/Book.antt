@@ -9,7 +9,7 @@ use Rattle.pgp_log.specs.Log.{is_legal}
 
 -- the first word is the length of the log, which is legal, and the second the number of turns that were taken; those of the
 -- entries of the log are over, and at most one other was taken
-pub record IsKept (cells : List Cell) (log : List Entry) : Type 0 where
+pub record IsBookOf (cells : List Cell) (log : List Entry) : Type 0 where
   pub turns : List Cell
   pub words : cells ≡ (length log, true) ∷ (length turns, true) ∷ turns
   pub over : (k : ℕ) → (cell turns k).1 ≡ nat_lt k (length log)

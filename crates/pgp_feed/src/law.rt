@@ -14,9 +14,9 @@ pub struct Law;
 impl Rule<Entry, u64> for Law {
     ghost use Rattle.std.specs.Prelude.{[]};
     ghost use base.Fml.{ftrue};
-    ghost use Rattle.pgp_feed.specs.Book.{IsKept};
+    ghost use Rattle.pgp_feed.specs.Book.{IsBookOf};
 
-    ghost holds = { IsKept };
+    ghost holds = { IsBookOf };
 
     ghost first = { [] };
 

@@ -1,7 +1,8 @@
 //! Entries by their lines, and replies as text.
 
 use pgp_ids::{Entry, Incremental};
-use pgp_text::{Command, Reply, read_line, write_reply};
+use pgp_lines::{Command, read_line};
+use pgp_text::{Reply, write_reply};
 use std::alloc::{AllocError, Global};
 
 /// The entry that the line is.

@@ -17,13 +17,6 @@ pub const ONE_DEVICE: &str =
 pub const MANY_GROUPS: &str =
     r#"{"op":"inc","epoch":1,"up":[0,1,2,3,4,5,6,7,8,9,10,11,12,13,14,15],"crush":[{"id":-1,"type":1,"alg":"uniform","items":[0,1,2,3,4,5,6,7,8,9,10,11,12,13,14,15]}],"pools":[{"id":1,"pg_num":256,"kind":"replicated","size":3,"min_size":2,"leaf":0}]}"#;
 
-/// Pool 1 of two groups on three of six devices, of each kind of pool.
-pub const TWO_GROUPS_OF_EACH_KIND: [&str; 3] = [
-    r#"{"op":"inc","epoch":1,"up":[0,1,2,3,4,5],"crush":[{"id":-1,"type":1,"alg":"uniform","items":[0,1,2,3,4,5]}],"pools":[{"id":1,"pg_num":2,"kind":"replicated","size":3,"min_size":2,"leaf":0}]}"#,
-    r#"{"op":"inc","epoch":1,"up":[0,1,2,3,4,5],"crush":[{"id":-1,"type":1,"alg":"uniform","items":[0,1,2,3,4,5]}],"pools":[{"id":1,"pg_num":2,"kind":"erasure","k":2,"size":3,"min_size":2,"leaf":0}]}"#,
-    r#"{"op":"inc","v":2,"epoch":1,"up":[0,1,2,3,4,5],"crush":[{"id":-1,"type":1,"alg":"uniform","items":[0,1,2,3,4,5]}],"pools":[{"id":1,"pg_num":2,"kind":"grouped","groups":[[[0,1],1],[[2],1]],"size":3,"min_size":2,"leaf":0}]}"#,
-];
-
 /// Pool 1 of two groups of three copies.
 pub const TWO_GROUPS: &str =
     r#"{"op":"inc","epoch":1,"up":[0,1,2],"weight":[[1,0],[2,0]],"crush":[{"id":-1,"type":1,"alg":"uniform","items":[0,1,2]}],"pools":[{"id":1,"pg_num":2,"kind":"replicated","size":3,"min_size":2,"leaf":0}]}"#;

@@ -15,7 +15,7 @@ pub fn peer_in_words(alloc: Global, state: &PeerState) -> Result<String, AllocEr
 }
 
 /// Writes an object with a version.
-pub fn tell_object(text: &mut String, name: &str, version: Version) -> Result<(), AllocError> {
+fn tell_object(text: &mut String, name: &str, version: Version) -> Result<(), AllocError> {
     let epoch = version.epoch;
     let v = version.v;
     write!(text, " {name} [{epoch},{v}]")

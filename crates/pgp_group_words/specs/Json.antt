@@ -1,20 +1,29 @@
 -- What is said of a group as JSON: one object, the keys of each object in ascending byte order.
-use Rattle.std.specs.Prelude.{ℕ, List, [], ◌∷◌, ◌++◌, codes}
+use Rattle.std.specs.Prelude.{ℕ, List, [], ◌∷◌, ◌++◌, Bool, false, Option, Some, None, codes, string_bytes}
 use Rattle.serde_json.specs.Data.{Data, string, boolean}
 use Rattle.serde_json.specs.Written.{compact_text}
 use Rattle.pgp_ids.specs.Names.{verdict_name}
 use Rattle.pgp_ids.specs.declared.report.Info.{Info}
 use Rattle.pgp_ids.specs.declared.version.Version.{Version}
 use Rattle.pgp_reasons.specs.declared.blocking.Blocking.{Blocking}
+use Rattle.pgp_reasons.specs.declared.copies.Copies.{Copies}
+use Rattle.pgp_reasons.specs.declared.fates.IntervalNow.{IntervalNow}
+use Rattle.pgp_reasons.specs.declared.fates.Writes.{Writes}
+use Rattle.pgp_reasons.specs.declared.fates.Writes.TheVariants.{Readable, Away, Gone}
 use Rattle.pgp_reasons.specs.declared.gap.Gap.{Gap}
+use Rattle.pgp_reasons.specs.declared.ways.AnyOf.{AnyOf}
 use Rattle.pgp_reasons.specs.declared.ways.Ways.{Ways}
+use Rattle.pgp_reasons.specs.declared.ways.Ways.TheVariants.{Any, Listed}
 use Rattle.pgp_text.specs.Answered.{pair_data, group_data, member_data, place_data, osds_data}
 use Rattle.pgp_text.specs.Json.{Field, object_with, number_data, list_data, option_data}
 use Rattle.pgp_group_words.specs.Text.{Text}
 use Rattle.pgp_group_words.specs.Names.{cluster_epoch}
 use Rattle.pgp_group_words.specs.Sentence.{sentence_of, unheard_of}
+use Rattle.pgp_group_words.specs.declared.advice.Advice.{Advice}
 use Rattle.pgp_group_words.specs.declared.explanation.Explanation.{Explanation}
 use Rattle.pgp_group_words.specs.declared.offset.EpochOffset.{EpochOffset}
+use Rattle.pgp_group_words.specs.declared.outcome.Outcome.{Outcome}
+use Rattle.pgp_group_words.specs.declared.outcome.Then.{Then}
 
 abbrev pub epoch_data : EpochOffset → ℕ → Data
 epoch_data offset epoch = number_data (cluster_epoch offset epoch)
@@ -51,72 +60,133 @@ info_data offset info = object_with (copy_fields offset info ++ log_fields offse
 abbrev pub devices_data : List ℕ → Data
 devices_data osds = list_data number_data osds
 
--- who served in an interval that blocks, and who of them is down
-abbrev pub served_fields : EpochOffset → Blocking → List Field
-served_fields offset interval =
-    (codes "acting", osds_data interval.acting)
-    ∷ (codes "clean", option_data (epoch_data offset) interval.clean)
-    ∷ (codes "down", devices_data interval.down)
-    ∷ []
-
--- when it was, and what it lacks
-abbrev pub span_fields : EpochOffset → Blocking → List Field
+-- a past interval: who served, and who of them is down or destroyed
+abbrev pub span_fields : EpochOffset → IntervalNow → List Field
 span_fields offset interval =
-    (codes "first", epoch_data offset interval.first)
-    ∷ (codes "lacks", number_data interval.lacks)
+    (codes "acting", osds_data interval.acting)
+    ∷ (codes "down", devices_data interval.down)
+    ∷ (codes "first", epoch_data offset interval.first)
+    ∷ (codes "gone", devices_data interval.gone)
     ∷ (codes "last", epoch_data offset interval.last)
     ∷ []
 
-abbrev pub blocking_data : EpochOffset → Blocking → Data
-blocking_data offset interval = object_with (served_fields offset interval ++ span_fields offset interval)
+abbrev pub writes_name : Writes → Text
+writes_name Readable = codes "readable"
+writes_name Away = codes "away"
+writes_name Gone = codes "gone"
 
-abbrev pub ways_data : Ways → Data
-ways_data ways = object_with ((codes "more", boolean ways.more) ∷ (codes "sets", list_data devices_data ways.sets) ∷ [])
+-- who was declared lost, who is up, and what has become of its writes
+abbrev pub fate_fields : IntervalNow → List Field
+fate_fields interval =
+    (codes "lost", devices_data interval.lost)
+    ∷ (codes "lost_before", devices_data interval.lost_before)
+    ∷ (codes "up", devices_data interval.up)
+    ∷ (codes "writes", string (writes_name interval.writes))
+    ∷ []
+
+abbrev pub interval_data : EpochOffset → IntervalNow → Data
+interval_data offset interval = object_with (span_fields offset interval ++ fate_fields interval)
+
+abbrev pub blocking_data : EpochOffset → Blocking → Data
+blocking_data offset blocking = object_with (
+    (codes "clean", option_data (epoch_data offset) blocking.clean)
+    ∷ (codes "interval", interval_data offset blocking.interval)
+    ∷ (codes "lacks", number_data blocking.lacks)
+    ∷ [])
+
+abbrev pub copies_data : Copies → Data
+copies_data copies = object_with ((codes "lacks", number_data copies.lacks) ∷ (codes "members", list_data member_data copies.members) ∷ [])
+
+-- ---- ways to end that a group is down
+
+abbrev pub then_data : Then → Data
+then_data after =
+    object_with ((codes "says", string (string_bytes after.says)) ∷ (codes "verdict", string (verdict_name after.verdict)) ∷ [])
+
+-- what is done, what the group is then, and what that costs
+abbrev pub outcome_fields : EpochOffset → Outcome → List Field
+outcome_fields offset outcome =
+    (codes "intervals", list_data (interval_data offset) outcome.price.intervals)
+    ∷ (codes "lost", devices_data outcome.losses)
+    ∷ (codes "start", devices_data outcome.starts)
+    ∷ (codes "then", option_data then_data outcome.after)
+    ∷ (codes "unreadable", boolean outcome.price.unreadable)
+    ∷ []
+
+abbrev pub outcome_data : EpochOffset → Outcome → Data
+outcome_data offset outcome = object_with (outcome_fields offset outcome)
+
+abbrev pub any_data : AnyOf → Data
+any_data any = object_with ((codes "least", number_data any.least) ∷ (codes "osds", devices_data any.osds) ∷ [])
+
+-- any so many of which devices are enough, if it is so
+abbrev pub any_of : Ways → Option AnyOf
+any_of (Any any) = Some any
+any_of (Listed listed) = None
+
+abbrev pub may_be_more : Ways → Bool
+may_be_more (Any any) = false
+may_be_more (Listed listed) = listed.more
+
+abbrev pub ways_data : EpochOffset → Advice → Data
+ways_data offset advice = object_with (
+    (codes "any", option_data any_data (any_of advice.explanation.reasons.ways))
+    ∷ (codes "more", boolean (may_be_more advice.explanation.reasons.ways))
+    ∷ (codes "sets", list_data (outcome_data offset) advice.ways)
+    ∷ [])
 
 -- ---- a group
 
--- where the group lies, what blocks it, and since when
+-- where the group lies, what blocks it, and whose copies are complete
 abbrev pub place_fields : EpochOffset → Explanation → List Field
 place_fields offset explanation =
     (codes "acting", osds_data explanation.view.acting)
     ∷ (codes "acting_primary", place_data explanation.view.acting_primary)
     ∷ (codes "blocking", list_data (blocking_data offset) explanation.reasons.blocking)
-    ∷ (codes "epoch", epoch_data offset explanation.view.epoch)
-    ∷ (codes "first", epoch_data offset explanation.view.first)
+    ∷ (codes "clean", option_data (interval_data offset) explanation.reasons.clean)
+    ∷ (codes "copies", copies_data explanation.reasons.copies)
     ∷ []
 
--- what its log lacks, whom it has heard, when it last served, and what may be given up
+-- since when it is so, what its log lacks, and whom it has heard
 abbrev pub reason_fields : EpochOffset → Explanation → List Field
 reason_fields offset explanation =
-    (codes "gaps", list_data gap_data explanation.reasons.gaps)
+    (codes "epoch", epoch_data offset explanation.view.epoch)
+    ∷ (codes "first", epoch_data offset explanation.view.first)
+    ∷ (codes "gaps", list_data gap_data explanation.reasons.gaps)
     ∷ (codes "heard", list_data (info_data offset) explanation.reasons.heard)
-    ∷ (codes "les", epoch_data offset explanation.view.les)
-    ∷ (codes "losses", ways_data explanation.reasons.losses)
     ∷ []
 
--- the group, the sentence on its verdict, what may be started, and whom it has to hear yet
+-- the ways that declare devices lost, where these are wanted
+abbrev pub resort_fields : EpochOffset → Option (List Outcome) → List Field
+resort_fields offset None = []
+resort_fields offset (Some outcomes) = (codes "last_resort", list_data (outcome_data offset) outcomes) ∷ []
+
+-- when it last served, the group, the sentence on its verdict, and whom it has to hear yet
 abbrev pub sentence_fields : EpochOffset → Explanation → List Field
 sentence_fields offset explanation =
-    (codes "pg", group_data explanation.pg)
+    (codes "les", epoch_data offset explanation.view.les)
+    ∷ (codes "pg", group_data explanation.pg)
     ∷ (codes "says", string (sentence_of explanation offset))
-    ∷ (codes "starts", ways_data explanation.reasons.starts)
     ∷ (codes "unheard", list_data member_data (unheard_of explanation))
     ∷ []
 
--- where placement puts it, and its verdict
-abbrev pub verdict_fields : Explanation → List Field
-verdict_fields explanation =
-    (codes "up", osds_data explanation.view.up)
-    ∷ (codes "up_primary", place_data explanation.view.up_primary)
-    ∷ (codes "verdict", string (verdict_name explanation.view.verdict))
+-- where placement puts it, its verdict, and the ways that only start devices
+abbrev pub verdict_fields : EpochOffset → Advice → List Field
+verdict_fields offset advice =
+    (codes "up", osds_data advice.explanation.view.up)
+    ∷ (codes "up_primary", place_data advice.explanation.view.up_primary)
+    ∷ (codes "verdict", string (verdict_name advice.explanation.view.verdict))
+    ∷ (codes "ways", ways_data offset advice)
     ∷ []
 
 -- what is said of a group
-abbrev pub explanation_data : EpochOffset → Explanation → Data
-explanation_data offset explanation = object_with (
-    place_fields offset explanation
-    ++ (reason_fields offset explanation ++ (sentence_fields offset explanation ++ verdict_fields explanation)))
+abbrev pub advice_data : EpochOffset → Advice → Data
+advice_data offset advice = object_with (
+    place_fields offset advice.explanation
+    ++ (reason_fields offset advice.explanation
+    ++ (resort_fields offset advice.last_resort
+    ++ (sentence_fields offset advice.explanation ++ verdict_fields offset advice))))
 
 -- as one line
-unfoldable pub json_of : Explanation → EpochOffset → Text
-json_of explanation offset = compact_text (explanation_data offset explanation) ++ 10 ∷ []
+unfoldable pub json_of : Advice → EpochOffset → Text
+json_of advice offset = compact_text (advice_data offset advice) ++ 10 ∷ []

@@ -3,5 +3,7 @@ pub mod Names
 pub mod Spans
 pub mod Lags
 pub mod Sentence
+pub mod IntervalWords
+pub mod WaysWords
 pub mod Words
 pub mod Json

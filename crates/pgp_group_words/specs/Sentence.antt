@@ -7,11 +7,12 @@ use Rattle.pgp_ids.specs.declared.member.Member.{Member}
 use Rattle.pgp_ids.specs.declared.report.Info.{Info}
 use Rattle.pgp_ids.specs.declared.verdict.Verdict.{Verdict}
 use Rattle.pgp_ids.specs.declared.verdict.Verdict.TheVariants.{NoPrimary, Down, Waiting, Incomplete, Short, NeedLog, NeedUpThru, Serve}
+use Rattle.pgp_reasons.specs.declared.fates.IntervalNow.{IntervalNow}
 use Rattle.pgp_reasons.specs.declared.gap.Gap.{Gap}
 use Rattle.pgp_group_words.specs.Text.{Text, joined, listed}
 use Rattle.pgp_group_words.specs.Lags.{laggard_of, laggard_name}
 use Rattle.pgp_group_words.specs.Names.{epoch_name, device_name, leader_name, member_name, are, plural}
-use Rattle.pgp_group_words.specs.Spans.{epochs_name, writes_name}
+use Rattle.pgp_group_words.specs.Spans.{epochs_in, epochs_name, writes_name}
 use Rattle.pgp_group_words.specs.declared.explanation.Explanation.{Explanation}
 use Rattle.pgp_group_words.specs.declared.lags.Laggard.{Laggard}
 use Rattle.pgp_group_words.specs.declared.names.Naming.{Naming}
@@ -39,7 +40,7 @@ on_down explanation offset = joined (
 
 -- members that are up haven't told of their copies
 unfoldable pub on_waiting : Explanation → Naming → Text
-on_waiting explanation naming = joined (codes "It waits to hear from " ∷ listed (map (member_name naming) (unheard_of explanation)) ∷ codes "." ∷ [])
+on_waiting explanation naming = joined (codes "It has yet to hear from " ∷ listed (map (member_name naming) (unheard_of explanation)) ∷ codes "." ∷ [])
 
 -- of two infos the one that knows of the later epoch in which the group served; the second, where both know of the same
 abbrev pub later_of : Info → Info → Info
@@ -68,10 +69,6 @@ abbrev pub none_recent : Option Info → Naming → Text
 none_recent None naming = codes "No complete copy was heard of."
 none_recent (Some info) naming = not_recent info naming
 
--- no copy may be followed
-unfoldable pub on_incomplete : List Info → Naming → Text
-on_incomplete heard naming = none_recent (informed_beside_complete heard) naming
-
 -- the acting set has too few members
 unfoldable pub few_members : (members min_size : ℕ) → Text
 few_members members min_size = joined (
@@ -81,7 +78,7 @@ few_members members min_size = joined (
     ∷ plural members (codes "member") (codes "members")
     ∷ codes ", and needs at least "
     ∷ decimal min_size
-    ∷ codes ": it waits for "
+    ∷ codes ": it needs "
     ∷ decimal (min_size - members)
     ∷ codes " more "
     ∷ plural (min_size - members) (codes "device") (codes "devices")
@@ -91,7 +88,7 @@ few_members members min_size = joined (
 -- its members are enough, and hold too few shards
 unfoldable pub few_shards : ℕ → Text
 few_shards lacks = joined (
-    codes "The members of its acting set hold too few shards to give objects back: it waits for "
+    codes "The members of its acting set hold too few shards to give objects back: it needs "
     ∷ decimal lacks
     ∷ codes " more "
     ∷ plural lacks (codes "shard") (codes "shards")
@@ -115,6 +112,36 @@ fallen_part osds =
     ∷ are (length osds)
     ∷ codes " down."
     ∷ [])
+
+-- who of those that were complete when the group was last clean is down
+unfoldable pub held_part : IntervalNow → EpochOffset → Text
+held_part interval offset = joined (
+    codes " Of those that were complete in "
+    ∷ epochs_in interval offset
+    ∷ codes ", when it was last clean, "
+    ∷ listed (map device_name interval.down)
+    ∷ codes " "
+    ∷ are (length interval.down)
+    ∷ codes " down."
+    ∷ [])
+
+-- the same, or else who of those that served the group last is down
+abbrev pub clean_part : Option IntervalNow → List ℕ → EpochOffset → Text
+clean_part None fallen offset = fallen_part fallen
+clean_part (Some interval) fallen offset = if length interval.down == 0 then fallen_part fallen else held_part interval offset
+
+-- who might be started
+abbrev pub starters_part : Explanation → EpochOffset → Text
+starters_part explanation offset = clean_part explanation.reasons.clean explanation.reasons.short.fallen offset
+
+-- nobody leads it
+unfoldable pub on_no_primary : Explanation → EpochOffset → Text
+on_no_primary explanation offset = codes "No device of its acting set is up, so nobody leads it." ++ starters_part explanation offset
+
+-- no copy may be followed
+unfoldable pub on_incomplete : Explanation → EpochOffset → Text
+on_incomplete explanation offset =
+    none_recent (informed_beside_complete explanation.reasons.heard) (naming_of explanation offset) ++ starters_part explanation offset
 
 -- the acting set has too few members, or they hold too few shards; and who might be started
 unfoldable pub on_short : Explanation → Text
@@ -158,18 +185,30 @@ unfoldable pub behind_part : List Laggard → Naming → Text
 behind_part laggards naming =
     if length laggards == 0 then [] else joined (codes " " ∷ listed (map (laggard_name naming) laggards) ∷ codes "." ∷ [])
 
+-- too few complete copies were heard
+unfoldable pub unread_part : ℕ → Text
+unread_part lacks =
+    if lacks == 0 then []
+    else joined (
+    codes " Too few complete copies were heard to read all that was written: it needs "
+    ∷ decimal lacks
+    ∷ codes " more."
+    ∷ [])
+
 -- it serves, and members that lag behind catch up
 unfoldable pub on_serving : Explanation → Naming → Text
-on_serving explanation naming =
+on_serving explanation naming = joined (
     joined (codes "It serves, led by " ∷ leader_name explanation.view.acting_primary ∷ codes "." ∷ [])
-    ++ behind_part (filter_map laggard_of explanation.view.missing) naming
+    ∷ unread_part explanation.reasons.copies.lacks
+    ∷ behind_part (filter_map laggard_of explanation.view.missing) naming
+    ∷ [])
 
 -- the sentence on this verdict
 abbrev pub sentence_on : Verdict → Explanation → EpochOffset → Text
-sentence_on NoPrimary explanation offset = codes "No device of its acting set is up, so nobody leads it."
+sentence_on NoPrimary explanation offset = on_no_primary explanation offset
 sentence_on Down explanation offset = on_down explanation offset
 sentence_on Waiting explanation offset = on_waiting explanation (naming_of explanation offset)
-sentence_on Incomplete explanation offset = on_incomplete explanation.reasons.heard (naming_of explanation offset)
+sentence_on Incomplete explanation offset = on_incomplete explanation offset
 sentence_on Short explanation offset = on_short explanation
 sentence_on NeedLog explanation offset = on_log explanation.view.best explanation.reasons.gaps (naming_of explanation offset)
 sentence_on NeedUpThru explanation offset = on_up_thru explanation.view.acting_primary (epoch_name offset explanation.view.first)

@@ -1,6 +1,7 @@
 -- Runs of epochs and of writes in words.
 use Rattle.std.specs.Prelude.{ℕ, ◌+◌, ◌==◌, List, [], ◌∷◌, ◌++◌, Bool, false, nat_lt, length, take, map, fold, flat_map, codes, decimal, if◌then◌else◌}
 use Rattle.pgp_reasons.specs.declared.blocking.Blocking.{Blocking}
+use Rattle.pgp_reasons.specs.declared.fates.IntervalNow.{IntervalNow}
 use Rattle.pgp_reasons.specs.declared.gap.Gap.{Gap}
 use Rattle.pgp_group_words.specs.Text.{Text, joined, listed}
 use Rattle.pgp_group_words.specs.Names.{cluster_epoch}
@@ -15,8 +16,12 @@ abbrev pub span_name : Span → Text
 span_name run = if run.first == run.last then decimal run.first else joined (decimal run.first ∷ codes " to " ∷ decimal run.last ∷ [])
 
 -- the epochs of an interval, as they are reported
-abbrev pub epochs_of : EpochOffset → Blocking → Span
+abbrev pub epochs_of : EpochOffset → IntervalNow → Span
 epochs_of offset interval = from_to (cluster_epoch offset interval.first) (cluster_epoch offset interval.last)
+
+-- those of an interval that blocks
+abbrev pub epochs_blocked : EpochOffset → Blocking → Span
+epochs_blocked offset blocking = epochs_of offset blocking.interval
 
 -- runs with one behind them: the last is longer by it where it follows upon that
 abbrev pub then_run : List Span → Span → List Span
@@ -26,7 +31,7 @@ then_run (run ∷ other ∷ runs) next = run ∷ then_run (other ∷ runs) next
 
 -- the epochs of intervals in ascending order; those that follow one upon another are one run
 unfoldable pub runs_of_epochs : EpochOffset → List Blocking → List Span
-runs_of_epochs offset intervals = fold then_run [] (map (epochs_of offset) intervals)
+runs_of_epochs offset intervals = fold then_run [] (map (epochs_blocked offset) intervals)
 
 -- the writes that a log lacks
 abbrev pub run_of_writes : Gap → Span
@@ -59,6 +64,10 @@ runs_name noun runs = joined (noun ∷ (if is_single runs then codes " " else co
 -- the epochs of intervals in a sentence
 abbrev pub epochs_name : EpochOffset → List Blocking → Text
 epochs_name offset intervals = runs_name (codes "epoch") (runs_of_epochs offset intervals)
+
+-- the epochs of an interval in a sentence
+abbrev pub epochs_in : IntervalNow → EpochOffset → Text
+epochs_in interval offset = runs_name (codes "epoch") (epochs_of offset interval ∷ [])
 
 -- the writes that a log lacks in a sentence
 abbrev pub writes_name : List Gap → Text

@@ -1,19 +1,18 @@
 -- What is said of a group in words.
-use Rattle.std.specs.Prelude.{ℕ, ◌==◌, List, [], ◌∷◌, ◌++◌, Bool, true, false, ◌||◌, ◌&&◌, not, length, map, flat_map, Option, Some, None, codes, decimal, if◌then◌else◌}
+use Rattle.std.specs.Prelude.{ℕ, ◌==◌, List, [], ◌∷◌, ◌++◌, flat_map, Option, Some, None, codes, decimal, if◌then◌else◌}
 use Rattle.pgp_ids.specs.Names.{verdict_name}
-use Rattle.pgp_ids.specs.Osds.{first_osd}
 use Rattle.pgp_ids.specs.declared.member.Member.{Member}
 use Rattle.pgp_ids.specs.declared.report.Info.{Info}
-use Rattle.pgp_ids.specs.declared.verdict.Verdict.{Verdict}
-use Rattle.pgp_ids.specs.declared.verdict.Verdict.TheVariants.{Down}
-use Rattle.pgp_reasons.specs.declared.blocking.Blocking.{Blocking}
-use Rattle.pgp_group_words.specs.Text.{Text, joined, line, listed, each_after_first}
-use Rattle.pgp_group_words.specs.Names.{cluster_epoch, epoch_name, group_name, device_name, leader_name, member_name, version_name, places_name, are, plural}
-use Rattle.pgp_group_words.specs.Spans.{epochs_of, epochs_name, runs_name}
+use Rattle.pgp_group_words.specs.IntervalWords.{interval_lines}
+use Rattle.pgp_group_words.specs.Text.{Text, joined, line}
+use Rattle.pgp_group_words.specs.Names.{cluster_epoch, epoch_name, group_name, leader_name, member_name, version_name, places_name}
 use Rattle.pgp_group_words.specs.Sentence.{naming_of, unheard_of, sentence_of}
+use Rattle.pgp_group_words.specs.WaysWords.{ways_lines, resort_lines}
+use Rattle.pgp_group_words.specs.declared.advice.Advice.{Advice}
 use Rattle.pgp_group_words.specs.declared.explanation.Explanation.{Explanation}
 use Rattle.pgp_group_words.specs.declared.names.Naming.{Naming}
 use Rattle.pgp_group_words.specs.declared.offset.EpochOffset.{EpochOffset}
+use Rattle.pgp_group_words.specs.declared.outcome.Outcome.{Outcome}
 
 -- the group and its verdict
 unfoldable pub heading : Explanation → EpochOffset → Text
@@ -114,110 +113,25 @@ unheard_heading (member ∷ members) = codes "Not heard:\n"
 unfoldable pub unheard_lines : List Member → Naming → Text
 unheard_lines members naming = unheard_heading members ++ flat_map (member_line naming) members
 
--- why an interval may have gone read-write: a report that the group was clean in this epoch, or what the map recorded of its
--- primary
-unfoldable pub read_write_line : Option ℕ → EpochOffset → Option ℕ → Text
-read_write_line (Some clean) offset primary =
-    line (codes "  it may have gone read-write: a report says that the group was clean in epoch " ∷ epoch_name offset clean ∷ [])
-read_write_line None offset primary =
-    line (codes "  it may have gone read-write: the map recorded that its primary, " ∷ leader_name primary ∷ codes ", was up in it" ∷ [])
-
--- when an interval was, who served, and what it needs
-unfoldable pub waits_line : EpochOffset → Blocking → Text
-waits_line offset interval = line (
-    codes "\nIt waits for the interval of "
-    ∷ runs_name (codes "epoch") (epochs_of offset interval ∷ [])
-    ∷ codes " on "
-    ∷ places_name interval.acting
-    ∷ codes ", which needs "
-    ∷ decimal interval.lacks
-    ∷ codes " more "
-    ∷ plural interval.lacks (codes "member") (codes "members")
-    ∷ codes ":"
-    ∷ [])
-
--- its devices that are down
-unfoldable pub down_line : List ℕ → Text
-down_line osds = line (codes "  " ∷ listed (map device_name osds) ∷ codes " " ∷ are (length osds) ∷ codes " down" ∷ [])
-
--- an interval that blocks
-unfoldable pub interval_lines : EpochOffset → Blocking → Text
-interval_lines offset interval = joined (
-    waits_line offset interval
-    ∷ down_line interval.down
-    ∷ read_write_line interval.clean offset (first_osd interval.acting)
-    ∷ [])
-
--- ---- what would bring it back
-
-abbrev pub ways_heading : Verdict → Text
-ways_heading Down = codes "\nWhat brings it back:\n"
-ways_heading verdict = codes "\nIt would be down, too. What ends that:\n"
-
--- which devices may be started
-unfoldable pub start_line : Text → List ℕ → Text
-start_line before osds = line (codes "  " ∷ before ∷ codes "start " ∷ listed (map device_name osds) ∷ [])
-
-unfoldable pub start_lines : List (List ℕ) → Text
-start_lines sets = each_after_first start_line [] (codes "or ") sets
-
--- which devices may be declared lost, at the price of what was written in these epochs
-unfoldable pub loss_line : Text → Text → List ℕ → Text
-loss_line written before osds = line (
-    codes "  "
-    ∷ before
-    ∷ codes "giving up what was written in "
-    ∷ written
-    ∷ codes ", declare "
-    ∷ listed (map device_name osds)
-    ∷ codes " lost"
-    ∷ [])
-
--- what stands before the first of them: nothing, where nothing may be started instead
-abbrev pub before_losses : List (List ℕ) → Text
-before_losses [] = []
-before_losses (set ∷ sets) = codes "or, "
-
-unfoldable pub loss_lines : List (List ℕ) → List (List ℕ) → Text → Text
-loss_lines sets starts written = each_after_first (loss_line written) (before_losses starts) (codes "or, ") sets
-
-abbrev pub is_empty : List (List ℕ) → Bool
-is_empty sets = length sets == 0
-
--- there may be ways that aren't listed
-abbrev pub may_be_more : Explanation → Bool
-may_be_more explanation = explanation.reasons.starts.more || explanation.reasons.losses.more
-
-abbrev pub more_line : Bool → Text
-more_line true = codes "  (there may be others)\n"
-more_line false = []
-
--- the ways in which a group stops being down
-unfoldable pub listed_ways : Explanation → EpochOffset → Text
-listed_ways explanation offset = joined (
-    ways_heading explanation.view.verdict
-    ∷ start_lines explanation.reasons.starts.sets
-    ∷ loss_lines explanation.reasons.losses.sets explanation.reasons.starts.sets (epochs_name offset explanation.reasons.blocking)
-    ∷ more_line (may_be_more explanation)
-    ∷ [])
-
--- no way is listed, and there is no other: the group isn't down
-abbrev pub has_no_way : Explanation → Bool
-has_no_way explanation =
-    is_empty explanation.reasons.starts.sets && (is_empty explanation.reasons.losses.sets && not (may_be_more explanation))
-
-unfoldable pub ways_lines : Explanation → EpochOffset → Text
-ways_lines explanation offset = if has_no_way explanation then [] else listed_ways explanation offset
+-- whom it has heard, and whom it has to hear yet
+unfoldable pub hearing_lines : Explanation → EpochOffset → Text
+hearing_lines explanation offset =
+    heard_lines explanation.reasons.heard (naming_of explanation offset) ++ unheard_lines (unheard_of explanation) (naming_of explanation offset)
 
 -- ---- all of it
 
+-- the ways that declare devices lost, where these are wanted
+abbrev pub last_resort_lines : Option (List Outcome) → EpochOffset → Text
+last_resort_lines None offset = []
+last_resort_lines (Some outcomes) offset = resort_lines outcomes offset
+
 -- what is said of a group in words
-unfoldable pub words_of : Explanation → EpochOffset → Text
-words_of explanation offset = joined (
-    verdict_lines explanation offset
-    ∷ place_lines explanation offset
-    ∷ heard_lines explanation.reasons.heard (naming_of explanation offset)
-    ∷ unheard_lines (unheard_of explanation) (naming_of explanation offset)
-    ∷ flat_map (interval_lines offset) explanation.reasons.blocking
-    ∷ ways_lines explanation offset
+unfoldable pub words_of : Advice → EpochOffset → Text
+words_of advice offset = joined (
+    verdict_lines advice.explanation offset
+    ∷ place_lines advice.explanation offset
+    ∷ hearing_lines advice.explanation offset
+    ∷ flat_map (interval_lines (naming_of advice.explanation offset)) advice.explanation.reasons.blocking
+    ∷ ways_lines advice offset
+    ∷ last_resort_lines advice.last_resort offset
     ∷ [])

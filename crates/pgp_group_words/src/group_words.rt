@@ -1,63 +1,84 @@
 //! A group in words.
 
 ghost use Rattle.std.specs.Prelude.{◌≡◌, ◌++◌, codes, flat_map, if◌then◌else◌, IfOk, OnOk, OnErr, string_bytes};
-ghost use Rattle.pgp_group_words.specs.Words.{acting_line, down_line, has_served, heading, heard_lines, info_line, interval_lines, knows_of, place_lines, read_write_line, member_line, sender_part, served_line, unheard_lines, up_line, verdict_lines, waits_line, words_of as words_of_group};
+ghost use Rattle.pgp_group_words.specs.Words.{acting_line, has_served, heading, heard_lines, hearing_lines, info_line, knows_of, last_resort_lines, place_lines, member_line, sender_part, served_line, unheard_lines, up_line, verdict_lines, words_of as words_of_group};
 
+use super::advice::Advice;
 use super::explanation::Explanation;
-use super::names::{Group, Leader, Naming, are, plural};
+use super::interval_words::put_intervals;
+use super::names::{Group, Leader, Naming};
 use super::offset::EpochOffset;
+use super::outcome::Outcome;
 use super::sentence::sentence;
-use super::spans::{epochs_of, runs};
-use super::ways_words::put_ways;
-use super::words::{devices, name, places};
-use pgp_ids::{Epoch, Info, Member, OsdId, Osds};
-use pgp_reasons::Blocking;
+use super::ways_words::{put_last_resort, put_ways};
+use super::words::{name, places};
+use pgp_ids::{Info, Member, Osds, Seq};
 use std::alloc::{AllocError, Global};
 
 /// Puts what there is to say of a group behind what `text` has, in lines that each end in a line feed. Where there is
 /// no memory, `text` stays as it was.
 pub fn put_words(
     alloc: Global,
-    explanation: &Explanation,
+    advice: &Advice,
     offset: EpochOffset,
     text: &mut String,
 ) -> Result<(), AllocError>
     ensures ok { OnOk result (string_bytes text.new
-        ≡ string_bytes text.old ++ words_of_group explanation.now offset) }
+        ≡ string_bytes text.old ++ words_of_group advice.now offset) }
     ensures err { OnErr result (string_bytes text.new ≡ string_bytes text.old) }
 {
-    let words = words_of(alloc, explanation, offset)?;
+    let words = words_of(alloc, advice, offset)?;
     text.push_str(words.as_str())
 }
 
 #[tactic(auto, unfolding(crate::specs::Words::words_of))]
-fn words_of(
-    alloc: Global,
-    explanation: &Explanation,
-    offset: EpochOffset,
-) -> Result<String, AllocError>
-    ensures { IfOk result (λ text. string_bytes text ≡ words_of_group explanation.now offset) }
+fn words_of(alloc: Global, advice: &Advice, offset: EpochOffset) -> Result<String, AllocError>
+    ensures { IfOk result (λ text. string_bytes text ≡ words_of_group advice.now offset) }
 {
+    let explanation = &advice.explanation;
     let naming = explanation.naming(offset);
-    let unheard = explanation.unheard(alloc)?;
     let mut text = String::new(alloc);
     put_verdict(alloc, explanation, offset, &mut text)?;
     put_place(alloc, explanation, offset, &mut text)?;
-    put_heard(
-        alloc,
-        explanation.reasons.heard.as_slice(),
-        naming,
-        &mut text,
-    )?;
-    put_unheard(alloc, unheard.as_slice(), naming, &mut text)?;
-    put_intervals(
-        alloc,
-        explanation.reasons.blocking.as_slice(),
-        naming,
-        &mut text,
-    )?;
-    put_ways(alloc, explanation, offset, &mut text)?;
+    put_hearing(alloc, explanation, offset, &mut text)?;
+    let blocking = explanation.reasons.blocking.as_slice();
+    put_intervals(alloc, blocking, naming, &mut text)?;
+    put_ways(alloc, advice, naming, &mut text)?;
+    put_resorts(alloc, &advice.last_resort, naming, &mut text)?;
     Ok(text)
+}
+
+/// Whom it has heard, and whom it has to hear yet.
+#[tactic(auto, unfolding(crate::specs::Words::hearing_lines))]
+fn put_hearing(
+    alloc: Global,
+    explanation: &Explanation,
+    offset: EpochOffset,
+    text: &mut String,
+) -> Result<(), AllocError>
+    ensures { OnOk result (string_bytes text.new
+        ≡ string_bytes text.old ++ hearing_lines explanation.now offset) }
+{
+    let naming = explanation.naming(offset);
+    let unheard = explanation.unheard(alloc)?;
+    put_heard(alloc, explanation.reasons.heard.as_slice(), naming, text)?;
+    put_unheard(alloc, unheard.as_slice(), naming, text)
+}
+
+/// The ways that declare devices lost, where these are wanted.
+fn put_resorts(
+    alloc: Global,
+    outcomes: &Option<Seq<Outcome>>,
+    naming: Naming,
+    text: &mut String,
+) -> Result<(), AllocError>
+    ensures { OnOk result (string_bytes text.new
+        ≡ string_bytes text.old ++ last_resort_lines outcomes.now naming.offset) }
+{
+    match outcomes {
+        Some(outcomes) => put_last_resort(alloc, outcomes.as_slice(), naming, text),
+        None => Ok(()),
+    }
 }
 
 #[tactic(auto, unfolding(crate::specs::Words::verdict_lines))]
@@ -297,100 +318,4 @@ fn put_member(
 {
     let member = name(alloc, naming, member)?;
     writeln!(text, "  {member}")
-}
-
-fn put_intervals(
-    alloc: Global,
-    intervals: &[Blocking],
-    naming: Naming,
-    text: &mut String,
-) -> Result<(), AllocError>
-    ensures { OnOk result (string_bytes text.new
-        ≡ string_bytes text.old ++ flat_map (interval_lines naming.offset) intervals.now) }
-{
-    for interval in intervals {
-        put_interval(alloc, interval, naming, text)?;
-    }
-    Ok(())
-}
-
-#[tactic(auto, unfolding(crate::specs::Words::interval_lines))]
-fn put_interval(
-    alloc: Global,
-    interval: &Blocking,
-    naming: Naming,
-    text: &mut String,
-) -> Result<(), AllocError>
-    ensures { OnOk result (string_bytes text.new
-        ≡ string_bytes text.old ++ interval_lines naming.offset interval.now) }
-{
-    put_waits(alloc, interval, naming, text)?;
-    put_down(alloc, interval.down.as_slice(), naming, text)?;
-    put_read_write(interval.clean, naming, interval.acting.first(), text)
-}
-
-/// When the interval was, who served, and what it needs.
-#[tactic(auto, unfolding(crate::specs::Words::waits_line))]
-fn put_waits(
-    alloc: Global,
-    interval: &Blocking,
-    naming: Naming,
-    text: &mut String,
-) -> Result<(), AllocError>
-    ensures { OnOk result (string_bytes text.new
-        ≡ string_bytes text.old ++ waits_line naming.offset interval.now) }
-{
-    let epochs = runs(
-        alloc,
-        naming,
-        "epoch",
-        &[epochs_of(interval, naming.offset)],
-    )?;
-    let acting = places(alloc, naming, &interval.acting)?;
-    let lacks = interval.lacks;
-    let members = plural(lacks, "member", "members");
-    writeln!(
-        text,
-        "\nIt waits for the interval of {epochs} on {acting}, which needs {lacks} more {members}:"
-    )
-}
-
-/// Its devices that are down.
-#[tactic(auto, unfolding(crate::specs::Words::down_line))]
-fn put_down(
-    alloc: Global,
-    osds: &[OsdId],
-    naming: Naming,
-    text: &mut String,
-) -> Result<(), AllocError>
-    ensures { OnOk result (string_bytes text.new ≡ string_bytes text.old ++ down_line osds.now) }
-{
-    let down = devices(alloc, naming, osds)?;
-    let are = are(osds.len());
-    writeln!(text, "  {down} {are} down")
-}
-
-/// Why an interval may have gone read-write, whose primary is this.
-#[tactic(auto, unfolding(crate::specs::Words::read_write_line))]
-fn put_read_write(
-    clean: Option<Epoch>,
-    naming: Naming,
-    primary: Option<OsdId>,
-    text: &mut String,
-) -> Result<(), AllocError>
-    ensures { OnOk result (string_bytes text.new
-        ≡ string_bytes text.old ++ read_write_line clean naming.offset primary) }
-{
-    match clean {
-        Some(clean) => writeln!(
-            text,
-            "  it may have gone read-write: a report says that the group was clean in epoch {}",
-            naming.epoch(clean),
-        ),
-        None => writeln!(
-            text,
-            "  it may have gone read-write: the map recorded that its primary, {}, was up in it",
-            Leader(primary),
-        ),
-    }
 }

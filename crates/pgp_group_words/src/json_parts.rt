@@ -5,13 +5,13 @@ ghost use Rattle.serde_json.specs.Data.{Data, string, boolean};
 ghost use Rattle.pgp_text.specs.Answered.{group_data, member_data, pair_data, place_data};
 ghost use Rattle.pgp_text.specs.Json.{list_data, number_data, option_data};
 ghost use Rattle.pgp_text.specs.Written.{fields_tokens, tokens_of};
-ghost use Rattle.pgp_group_words.specs.Json.{blocking_data, copy_fields, epoch_data, gap_data, info_data, log_fields, served_fields, span_fields, ways_data, write_data};
+ghost use Rattle.pgp_group_words.specs.Json.{blocking_data, copies_data, copy_fields, epoch_data, fate_fields, gap_data, info_data, interval_data, log_fields, span_fields, write_data, writes_name as name_of_writes};
 ghost use Rattle.pgp_group_words.specs.declared.offset.EpochOffset.{EpochOffset as TheOffset};
 
 use super::offset::EpochOffset;
 use json::Writer;
 use pgp_ids::{Epoch, Info, Member, OsdId, Osds, PgId, Place, Seq, Version};
-use pgp_reasons::{Blocking, Gap, Ways};
+use pgp_reasons::{Blocking, Copies, Gap, IntervalNow, Writes};
 use std::alloc::AllocError;
 
 /// What is written as one JSON value.
@@ -200,54 +200,84 @@ fn write_log(out: &mut Writer, offset: EpochOffset, info: &Info) -> Result<(), A
     write_field(out, offset, "stamp", &info.stamp)
 }
 
+impl Json for IntervalNow {
+    ghost value = { interval_data };
+
+    #[tactic(auto, using(pgp_text::proofs::Tokens::token_steps))]
+    fn write(&self, out: &mut Writer, offset: EpochOffset) -> Result<(), AllocError> {
+        out.begin_object()?;
+        write_span(out, offset, self)?;
+        write_fates(out, offset, self)?;
+        out.end_object()
+    }
+}
+
+/// Who served in a past interval, and who of them is down or destroyed.
+#[tactic(auto, using(pgp_text::proofs::Tokens::token_steps))]
+fn write_span(
+    out: &mut Writer,
+    offset: EpochOffset,
+    interval: &IntervalNow,
+) -> Result<(), AllocError>
+    ensures ok { OnOk result
+        (out.new.tokens ≡ out.old.tokens ++ fields_tokens (span_fields offset interval.now)) }
+    ensures before { out.new.before ≡ out.old.before }
+{
+    write_field(out, offset, "acting", &interval.acting)?;
+    write_field(out, offset, "down", &interval.down)?;
+    write_field(out, offset, "first", &interval.first)?;
+    write_field(out, offset, "gone", &interval.gone)?;
+    write_field(out, offset, "last", &interval.last)
+}
+
+/// Who was declared lost, who is up, and what has become of its writes.
+#[tactic(auto, using(pgp_text::proofs::Tokens::token_steps))]
+fn write_fates(
+    out: &mut Writer,
+    offset: EpochOffset,
+    interval: &IntervalNow,
+) -> Result<(), AllocError>
+    ensures ok { OnOk result
+        (out.new.tokens ≡ out.old.tokens ++ fields_tokens (fate_fields interval.now)) }
+    ensures before { out.new.before ≡ out.old.before }
+{
+    write_field(out, offset, "lost", &interval.lost)?;
+    write_field(out, offset, "lost_before", &interval.lost_before)?;
+    write_field(out, offset, "up", &interval.up)?;
+    write_field(out, offset, "writes", &writes_name(interval.writes))
+}
+
+fn writes_name(writes: Writes) -> &'static str
+    ensures { result.now ≡ name_of_writes writes }
+{
+    match writes {
+        Writes::Readable => "readable",
+        Writes::Away => "away",
+        Writes::Gone => "gone",
+    }
+}
+
 impl Json for Blocking {
     ghost value = { blocking_data };
 
     #[tactic(auto, using(pgp_text::proofs::Tokens::token_steps))]
     fn write(&self, out: &mut Writer, offset: EpochOffset) -> Result<(), AllocError> {
         out.begin_object()?;
-        write_served(out, offset, self)?;
-        write_span(out, offset, self)?;
+        write_field(out, offset, "clean", &self.clean)?;
+        write_field(out, offset, "interval", &self.interval)?;
+        write_field(out, offset, "lacks", &self.lacks)?;
         out.end_object()
     }
 }
 
-/// Who served in an interval that blocks, and who of them is down.
-#[tactic(auto, using(pgp_text::proofs::Tokens::token_steps))]
-fn write_served(
-    out: &mut Writer,
-    offset: EpochOffset,
-    interval: &Blocking,
-) -> Result<(), AllocError>
-    ensures ok { OnOk result
-        (out.new.tokens ≡ out.old.tokens ++ fields_tokens (served_fields offset interval.now)) }
-    ensures before { out.new.before ≡ out.old.before }
-{
-    write_field(out, offset, "acting", &interval.acting)?;
-    write_field(out, offset, "clean", &interval.clean)?;
-    write_field(out, offset, "down", &interval.down)
-}
-
-/// When it was, and what it lacks.
-#[tactic(auto, using(pgp_text::proofs::Tokens::token_steps))]
-fn write_span(out: &mut Writer, offset: EpochOffset, interval: &Blocking) -> Result<(), AllocError>
-    ensures ok { OnOk result
-        (out.new.tokens ≡ out.old.tokens ++ fields_tokens (span_fields offset interval.now)) }
-    ensures before { out.new.before ≡ out.old.before }
-{
-    write_field(out, offset, "first", &interval.first)?;
-    write_field(out, offset, "lacks", &interval.lacks)?;
-    write_field(out, offset, "last", &interval.last)
-}
-
-impl Json for Ways {
-    ghost value = { λ _ ways. ways_data ways };
+impl Json for Copies {
+    ghost value = { λ _ copies. copies_data copies };
 
     #[tactic(auto, using(pgp_text::proofs::Tokens::token_steps))]
     fn write(&self, out: &mut Writer, offset: EpochOffset) -> Result<(), AllocError> {
         out.begin_object()?;
-        write_field(out, offset, "more", &self.more)?;
-        write_field(out, offset, "sets", &self.sets)?;
+        write_field(out, offset, "lacks", &self.lacks)?;
+        write_field(out, offset, "members", &self.members)?;
         out.end_object()
     }
 }

@@ -1,25 +1,31 @@
 //! What is told of one group, in words for an operator and as JSON: why it doesn't serve, and what brings it back.
 //!
-//! This layer decides the text of an [`Explanation`], and nothing else: that has the group's view, the reasons of pgp_reasons, and
-//! what is told of its pool. [`put_words`] and [`put_json`] put the text, and their contracts define it whole. A summary of
+//! This layer decides the text of an [`Advice`], and nothing else: that has an [`Explanation`], which is the group's view, the
+//! reasons of pgp_reasons and what is told of its pool, and the [`Outcome`] of each way to bring it back. [`put_words`] and [`put_json`] put the text, and their contracts define it whole. A summary of
 //! groups names devices, counts and epochs in the same way, and is written as JSON by the same parts.
 #![tactic(auto)]
 
+mod advice;
 mod explanation;
 mod group_json;
 mod group_words;
+mod interval_words;
 mod json_parts;
 mod lags;
 mod names;
 mod offset;
+mod outcome;
 mod sentence;
 mod spans;
+mod ways_json;
 mod ways_words;
 mod words;
 
+pub use advice::Advice;
 pub use explanation::Explanation;
 pub use group_json::{into_line, put_json};
 pub use group_words::put_words;
 pub use json_parts::{Json, write_field};
 pub use names::{Device, plural};
 pub use offset::EpochOffset;
+pub use outcome::{Outcome, Then};

@@ -1,7 +1,7 @@
 //! What a group waits for, in one sentence.
 
-ghost use Rattle.std.specs.Prelude.{◌≡◌, ◌==◌, ◌<◌, ◌++◌, length, IfOk, OnOk, string_bytes, decimal, if◌then◌else◌};
-ghost use Rattle.pgp_group_words.specs.Sentence.{informed as informed_of, informed_beside_complete as informed_beside, behind_part, fallen_part, few as few_of, few_members as few_members_of, few_shards as few_shards_of, lacking_log as lacking_log_of, not_recent as not_recent_of, on_down as on_down_of, on_incomplete as on_incomplete_of, on_log as on_log_of, on_serving as on_serving_of, on_short as on_short_of, on_up_thru as on_up_thru_of, on_waiting as on_waiting_of, sentence_of, unordered_log};
+ghost use Rattle.std.specs.Prelude.{◌≡◌, ◌==◌, ◌<◌, ◌++◌, Some, length, IfOk, OnOk, string_bytes, decimal, if◌then◌else◌};
+ghost use Rattle.pgp_group_words.specs.Sentence.{informed as informed_of, informed_beside_complete as informed_beside, none_recent as none_recent_of, behind_part, clean_part, fallen_part, held_part, starters_part, unread_part, few as few_of, few_members as few_members_of, few_shards as few_shards_of, lacking_log as lacking_log_of, not_recent as not_recent_of, on_down as on_down_of, on_incomplete as on_incomplete_of, on_no_primary as on_no_primary_of, on_log as on_log_of, on_serving as on_serving_of, on_short as on_short_of, on_up_thru as on_up_thru_of, on_waiting as on_waiting_of, sentence_of, unordered_log};
 ghost use Rattle.std.specs.List.{list_any};
 ghost use Rattle.std.specs.Option.{option_copied};
 
@@ -9,10 +9,10 @@ use super::explanation::Explanation;
 use super::lags::{Laggard, laggards};
 use super::names::{Leader, Naming, are, plural};
 use super::offset::EpochOffset;
-use super::spans::{epochs, writes};
+use super::spans::{epochs, epochs_in, writes};
 use super::words::{devices, listed, members, name};
 use pgp_ids::{Info, Member, OsdId, Verdict};
-use pgp_reasons::Gap;
+use pgp_reasons::{Gap, IntervalNow};
 use std::alloc::{AllocError, Global};
 
 /// The sentence on the verdict of a group.
@@ -28,13 +28,10 @@ pub(crate) fn sentence(
     let reasons = &explanation.reasons;
     let naming = explanation.naming(offset);
     match view.verdict {
-        Verdict::NoPrimary => String::from_str(
-            alloc,
-            "No device of its acting set is up, so nobody leads it.",
-        ),
+        Verdict::NoPrimary => on_no_primary(alloc, explanation, offset),
         Verdict::Down => on_down(alloc, explanation, offset),
         Verdict::Waiting => on_waiting(alloc, explanation, naming),
-        Verdict::Incomplete => on_incomplete(alloc, reasons.heard.as_slice(), naming),
+        Verdict::Incomplete => on_incomplete(alloc, explanation, offset),
         Verdict::Short => on_short(alloc, explanation, naming),
         Verdict::NeedLog => on_log(alloc, view.best, reasons.gaps.as_slice(), naming),
         Verdict::NeedUpThru => on_up_thru(alloc, view.acting_primary, naming.epoch(view.first)),
@@ -72,18 +69,102 @@ fn on_waiting(
 {
     let unheard = explanation.unheard(alloc)?;
     let members = members(alloc, naming, unheard.as_slice())?;
-    format!(in alloc; "It waits to hear from {members}.")
+    format!(in alloc; "It has yet to hear from {members}.")
+}
+
+/// Nobody leads it.
+#[tactic(auto, unfolding(crate::specs::Sentence::on_no_primary))]
+fn on_no_primary(
+    alloc: Global,
+    explanation: &Explanation,
+    offset: EpochOffset,
+) -> Result<String, AllocError>
+    ensures { IfOk result (λ text. string_bytes text ≡ on_no_primary_of explanation.now offset) }
+{
+    let mut text = String::from_str(
+        alloc,
+        "No device of its acting set is up, so nobody leads it.",
+    )?;
+    put_starters(alloc, explanation, offset, &mut text)?;
+    Ok(text)
 }
 
 /// No copy may be followed.
 #[tactic(auto, unfolding(crate::specs::Sentence::on_incomplete))]
-fn on_incomplete(alloc: Global, heard: &[Info], naming: Naming) -> Result<String, AllocError>
-    ensures { IfOk result (λ text. string_bytes text ≡ on_incomplete_of heard.now naming) }
+fn on_incomplete(
+    alloc: Global,
+    explanation: &Explanation,
+    offset: EpochOffset,
+) -> Result<String, AllocError>
+    ensures { IfOk result (λ text. string_bytes text ≡ on_incomplete_of explanation.now offset) }
+{
+    let heard = explanation.reasons.heard.as_slice();
+    let mut text = none_recent(alloc, heard, explanation.naming(offset))?;
+    put_starters(alloc, explanation, offset, &mut text)?;
+    Ok(text)
+}
+
+/// No copy that was heard of is complete and recent enough.
+fn none_recent(alloc: Global, heard: &[Info], naming: Naming) -> Result<String, AllocError>
+    ensures { IfOk result (λ text. string_bytes text ≡ none_recent_of (informed_beside heard.now) naming) }
 {
     match informed_beside_complete(heard) {
         Some(info) => not_recent(alloc, info, naming),
         None => String::from_str(alloc, "No complete copy was heard of."),
     }
+}
+
+/// Who might be started.
+fn put_starters(
+    alloc: Global,
+    explanation: &Explanation,
+    offset: EpochOffset,
+    text: &mut String,
+) -> Result<(), AllocError>
+    ensures { OnOk result (string_bytes text.new ≡ string_bytes text.old ++ starters_part explanation.now offset) }
+{
+    let naming = explanation.naming(offset);
+    let fallen = explanation.reasons.short.fallen.as_slice();
+    match &explanation.reasons.clean {
+        Some(clean) => put_held_or_fallen(alloc, clean, fallen, naming, text),
+        None => put_fallen(alloc, fallen, naming, text),
+    }
+}
+
+/// Who of those that were complete when the group was last clean is down, or else who of those that served it last.
+fn put_held_or_fallen(
+    alloc: Global,
+    clean: &IntervalNow,
+    fallen: &[OsdId],
+    naming: Naming,
+    text: &mut String,
+) -> Result<(), AllocError>
+    ensures { OnOk result (string_bytes text.new ≡ string_bytes text.old ++ clean_part (Some clean.now) fallen.now naming.offset) }
+{
+    if clean.down.is_empty() {
+        put_fallen(alloc, fallen, naming, text)
+    } else {
+        put_held(alloc, clean, naming, text)
+    }
+}
+
+/// Who of those that were complete when the group was last clean is down.
+#[tactic(auto, unfolding(crate::specs::Sentence::held_part))]
+fn put_held(
+    alloc: Global,
+    interval: &IntervalNow,
+    naming: Naming,
+    text: &mut String,
+) -> Result<(), AllocError>
+    ensures { OnOk result (string_bytes text.new ≡ string_bytes text.old ++ held_part interval.now naming.offset) }
+{
+    let epochs = epochs_in(alloc, interval, naming)?;
+    let down = devices(alloc, naming, interval.down.as_slice())?;
+    write!(
+        text,
+        " Of those that were complete in {epochs}, when it was last clean, {down} {} down.",
+        are(interval.down.len())
+    )
 }
 
 /// Complete copies are older than what this info knows of.
@@ -146,7 +227,7 @@ fn on_short(alloc: Global, explanation: &Explanation, naming: Naming) -> Result<
 }
 
 /// What the acting set lacks.
-fn few(alloc: Global, explanation: &Explanation) -> Result<String, AllocError>
+pub(crate) fn few(alloc: Global, explanation: &Explanation) -> Result<String, AllocError>
     ensures { IfOk result (λ text. string_bytes text ≡ few_of explanation.now) }
 {
     let members = explanation.view.acting.osd_count();
@@ -166,7 +247,7 @@ fn few_members(alloc: Global, members: usize, least: usize) -> Result<String, Al
 {
     let more = least - members;
     format!(in alloc;
-        "Its acting set has {members} {}, and needs at least {least}: it waits for {more} more {}.",
+        "Its acting set has {members} {}, and needs at least {least}: it needs {more} more {}.",
         plural(members, "member", "members"),
         plural(more, "device", "devices"),
     )
@@ -179,7 +260,7 @@ fn few_shards(alloc: Global, lacks: usize) -> Result<String, AllocError>
 {
     let shards = plural(lacks, "shard", "shards");
     format!(in alloc;
-        "The members of its acting set hold too few shards to give objects back: it waits for {lacks} more {shards}."
+        "The members of its acting set hold too few shards to give objects back: it needs {lacks} more {shards}."
     )
 }
 
@@ -283,8 +364,23 @@ fn on_serving(
     let laggards = laggards(alloc, explanation.view.missing.as_slice())?;
     let leader = Leader(explanation.view.acting_primary);
     let mut text = format!(in alloc; "It serves, led by {leader}.")?;
+    put_unread(explanation.reasons.copies.lacks, &mut text)?;
     put_behind(alloc, laggards.as_slice(), naming, &mut text)?;
     Ok(text)
+}
+
+/// How many complete copies more it needs for all that was written to be read.
+#[tactic(auto, unfolding(crate::specs::Sentence::unread_part))]
+fn put_unread(lacks: usize, text: &mut String) -> Result<(), AllocError>
+    ensures { OnOk result (string_bytes text.new ≡ string_bytes text.old ++ unread_part lacks) }
+{
+    if lacks == 0 {
+        return Ok(());
+    }
+    write!(
+        text,
+        " Too few complete copies were heard to read all that was written: it needs {lacks} more."
+    )
 }
 
 /// Who lacks something of the best copy.

@@ -1,12 +1,12 @@
 //! Runs of epochs and of writes in words.
 
 ghost use Rattle.std.specs.Prelude.{◌≡◌, ◌+◌, ◌==◌, ◌++◌, flat_map, IfOk, OnOk, string_bytes, codes};
-ghost use Rattle.pgp_group_words.specs.Spans.{epochs_name, epochs_of as reported_epochs, is_single as is_one_number, numbers_name, runs_name, runs_of_epochs as runs_of_intervals, runs_of_writes as runs_of_gaps, span_name, then_run, writes_name};
+ghost use Rattle.pgp_group_words.specs.Spans.{epochs_in as epochs_in_of, epochs_name, epochs_of as reported_epochs, is_single as is_one_number, numbers_name, runs_name, runs_of_epochs as runs_of_intervals, runs_of_writes as runs_of_gaps, span_name, then_run, writes_name};
 
 use super::names::Naming;
 use super::offset::EpochOffset;
 use super::words::{Word, listed};
-use pgp_reasons::{Blocking, Gap};
+use pgp_reasons::{Blocking, Gap, IntervalNow};
 use std::alloc::{AllocError, Global};
 
 /// How many runs a sentence names at most.
@@ -33,7 +33,7 @@ impl Word for Span {
 }
 
 /// The epochs of an interval.
-pub(crate) fn epochs_of(interval: &Blocking, offset: EpochOffset) -> Span
+fn epochs_of(interval: &IntervalNow, offset: EpochOffset) -> Span
     ensures { result ≡ reported_epochs offset interval.now }
 {
     Span {
@@ -52,8 +52,8 @@ fn runs_of_epochs(
     ensures { IfOk result (λ runs. runs.items ≡ runs_of_intervals offset intervals.now) }
 {
     let mut runs = Vec::new(alloc);
-    for interval in intervals {
-        join(&mut runs, epochs_of(interval, offset))?;
+    for blocking in intervals {
+        join(&mut runs, epochs_of(&blocking.interval, offset))?;
     }
     Ok(runs)
 }
@@ -112,6 +112,22 @@ pub(crate) fn epochs(
     runs(alloc, naming, "epoch", spans.as_slice())
 }
 
+/// The epochs of an interval in a sentence.
+pub(crate) fn epochs_in(
+    alloc: Global,
+    interval: &IntervalNow,
+    naming: Naming,
+) -> Result<String, AllocError>
+    ensures { IfOk result (λ text. string_bytes text ≡ epochs_in_of interval.now naming.offset) }
+{
+    runs(
+        alloc,
+        naming,
+        "epoch",
+        &[epochs_of(interval, naming.offset)],
+    )
+}
+
 /// The writes that a log lacks in a sentence.
 pub(crate) fn writes(alloc: Global, naming: Naming, gaps: &[Gap]) -> Result<String, AllocError>
     ensures { IfOk result (λ text. string_bytes text ≡ writes_name gaps.now) }
@@ -122,12 +138,7 @@ pub(crate) fn writes(alloc: Global, naming: Naming, gaps: &[Gap]) -> Result<Stri
 
 /// Runs of this noun in a sentence: `epoch 7`, `epochs 1 to 3 and 5`.
 #[tactic(auto, unfolding(crate::specs::Spans::runs_name))]
-pub(crate) fn runs(
-    alloc: Global,
-    naming: Naming,
-    noun: &str,
-    runs: &[Span],
-) -> Result<String, AllocError>
+fn runs(alloc: Global, naming: Naming, noun: &str, runs: &[Span]) -> Result<String, AllocError>
     ensures { IfOk result (λ text. string_bytes text ≡ runs_name noun.now runs.now) }
 {
     let numbers = numbers(alloc, naming, runs)?;

@@ -14,3 +14,4 @@ pub mod ReportParts
 pub mod Reports
 pub mod Op
 pub mod Command
+pub mod WorkedLines

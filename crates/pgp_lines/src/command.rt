@@ -25,6 +25,7 @@ mod objects;
 mod op;
 mod pools;
 mod trace;
+mod trail;
 mod value;
 
 use bumpalo::Bump;
@@ -36,8 +37,9 @@ use objects::unknown_key;
 pub use op::Op;
 use pgp_ids::{Entry, EpochState, ObjectName, PgId, PoolId, PoolKind, Seq, TextFault};
 use simdutf8::compat::from_utf8;
-use std::alloc::Global;
+use std::alloc::{AllocError, Global};
 pub use trace::MAX_EPOCHS;
+use trail::Trail;
 use value::{Tokens, Value, is_readable};
 
 /// What a line asks for.
@@ -117,20 +119,43 @@ impl LineReader {
         ensures in_range { IfOk result IsInRange }
         ensures kept { self.new.format ≡ self.old.format }
     {
-        let command = read_within(alloc, &self.arena, line, self.format, &mut self.room);
+        let command = read_within(alloc, &self.arena, line, self.format, &mut self.room, None);
         // Refused only while a block of the arena is out, and the line's tokens have been given back.
         let _ = self.arena.reset();
         command
     }
+
+    /// Reads a line once more that is refused for the value at a key, and says in words where that value is at fault, and what
+    /// isn't there.
+    pub fn place_of_fault(&mut self, alloc: Global, line: &[u8]) -> Result<String, AllocError>
+        ensures { self.new.format ≡ self.old.format }
+    {
+        let trail = Trail::new();
+        let trailed = Some(&trail);
+        let read = read_within(
+            alloc,
+            &self.arena,
+            line,
+            self.format,
+            &mut self.room,
+            trailed,
+        );
+        let _ = self.arena.reset();
+        match read {
+            Err(TextFault::Memory) => Err(AllocError),
+            _ => trail.words(alloc),
+        }
+    }
 }
 
-/// Reads a line up to this version whose tokens lie in the arena.
+/// Reads a line up to this version whose tokens lie in the arena. Each look into it is kept, where there is a trail for that.
 fn read_within<'a>(
     alloc: Global,
     arena: &'a Bump,
     line: &'a [u8],
     last: Format,
     room: &'a mut Scratch,
+    trail: Option<&Trail>,
 ) -> Result<Command, TextFault>
     ensures ok { IfOk result (λ command. command_of last line.now ≡ Ok command) }
     ensures err { IfErr result (λ fault. IfSome (line_fault_of fault) (λ f. command_of last line.now ≡ Err f)) }
@@ -138,7 +163,7 @@ fn read_within<'a>(
     ensures in_range { IfOk result IsInRange }
 {
     let tokens = read_json(arena, line, room)?;
-    read_command(alloc, &Value::of(&tokens), last)
+    read_command(alloc, &Value::of(&tokens, trail), last)
 }
 
 /// The tokens of a JSON text (RFC 8259, nested at most 127 deep), or `NotJson`.

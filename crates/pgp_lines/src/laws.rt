@@ -1,4 +1,10 @@
-//! The names of operations, and the versions of lines.
+//! The names of operations, the versions of lines, and worked lines, which the definitions compute.
+
+pub mod formats;
+pub mod grouped;
+pub mod incrementals;
+pub mod lines;
+
 ghost use Rattle.std.specs.Prelude.{◌≡◌, ℕ, List, Some};
 ghost use Rattle.serde_json.specs.Data.{Data};
 ghost use Rattle.pgp_lines.specs.Command.{command_of, data_of};

@@ -1,5 +1,5 @@
 -- What one entry more does to a log.
-use Rattle.pgp_log.proofs.Common.{◌≡◌, ◌<◌, ◌≤◌, inl, inr, length-append, append-nil, List, [], ◌∷◌, ◌++◌, Bool, true, false, Option, Some, None, IfSome, length, nat_le, if◌then◌else◌, refl, sym, ap, ◌∙◌, arith, option_map, option_or, cases_Bool, leb_tells, nat_tests, filter_map-append, or-false, if_none, Entry, Incremental, Refusal, checked-more, are_checked, refusal_of, epoch, map_fault, given_fault, MapFault, epoch-snoc, inc_of, incs_of, is_close, is_closed, entry_fault, full_fault, fits, epoch_of}
+use Rattle.pgp_log.proofs.Common.{◌≡◌, ◌<◌, ◌≤◌, eq-eqb, inl, inr, length-append, append-nil, List, [], ◌∷◌, ◌++◌, Bool, true, false, Option, Some, None, IfSome, length, nat_le, if◌then◌else◌, refl, sym, ap, ◌∙◌, arith, option_map, option_or, cases_Bool, leb_tells, nat_tests, filter_map-append, or-false, if_none, Entry, Incremental, Refusal, checked-more, are_checked, refusal_of, epoch, map_fault, given_fault, MapFault, is_same_group, PgId, epoch-snoc, inc_of, incs_of, is_close, is_closed, entry_fault, full_fault, fits, epoch_of}
 use Rattle.pgp_ids.specs.declared.entry.Entry.TheVariants as entry
 use Rattle.pgp_ids.specs.declared.refusal.Refusal.TheVariants as refusal
 use Rattle.pgp_map.proofs.FaultLemmas.{no_fault}
@@ -73,3 +73,7 @@ checked-push log new checked none = ap are_checked (incs-other log new refl) ∙
 pub faultless-tree : (log : List Entry) (new : Entry) → entry_fault log new ≡ None → IfSome (inc_of new) (λ inc. given_fault inc.crush ≡ None)
 faultless-tree log (entry.Inc inc) none = (no_fault (incs_of log) inc (faultless-inc log (entry.Inc inc) inc refl none)).tree
 faultless-tree log new none = tt
+
+-- a group is the same as itself
+pub same-self : (pg : PgId) → is_same_group pg pg ≡ true
+same-self pg = rw (eq-eqb pg.pool pg.pool refl, eq-eqb pg.pg pg.pg refl) refl

@@ -2,13 +2,8 @@ pub mod ReportFault
 pub mod Fits
 pub mod Log
 pub mod Judge
-pub mod Shard
-pub mod World
-pub mod WorldRun
-pub mod Running
 pub mod Locate
 pub mod RawSets
 pub mod Touch
-pub mod kept
-pub mod Examples
+pub mod MapBefore
 pub mod Worked

@@ -7,7 +7,7 @@ ghost use Rattle.pgp_map.specs.MapFault.{then_with};
 ghost use Rattle.pgp_map.specs.MapOf.{IsMapOf};
 ghost use Rattle.pgp_sets.specs.Sets.{may_place_elsewhere, moves, switches_any, weighed};
 ghost use Rattle.pgp_group.specs.GroupHistory.{primary_facts};
-ghost use Rattle.pgp_log.specs.kept.MapBefore.{IsMapBefore, makes_heavier, with_facts};
+ghost use Rattle.pgp_log.specs.MapBefore.{IsMapBefore, makes_heavier, with_facts};
 ghost use Rattle.pgp_log.specs.RawSets.{IsRawSet};
 
 use super::touch::has_sizes;
@@ -54,13 +54,7 @@ impl MapBefore {
 
     /// Whether the group is to be placed anew by the incremental, since the tree may put it elsewhere than on these places, its raw
     /// set so far. `after` is the map with the incremental.
-    pub(crate) fn places_anew(
-        &self,
-        after: &OsdMap,
-        inc: &Incremental,
-        pg: &PgId,
-        raw: &[Place],
-    ) -> bool
+    pub fn places_anew(&self, after: &OsdMap, inc: &Incremental, pg: &PgId, raw: &[Place]) -> bool
         requires { HasGroup after.now pg.now }
         ensures stays { result ≡ false → (incs : List AnyIncremental) → IsMapBefore incs inc.now self.now → IsRawSet incs pg.now raw.now
             → IsMapOf (then_with incs inc.now) after.now → may_place_elsewhere incs inc.now pg.now ≡ false }
@@ -83,7 +77,7 @@ impl MapBefore {
     }
 
     /// Whether one of the devices that the incremental weighs gets heavier. `after` is the map with the incremental.
-    pub(crate) fn makes_heavier(&self, after: &OsdMap) -> bool
+    pub fn makes_heavier(&self, after: &OsdMap) -> bool
         ensures { (incs : List AnyIncremental) → IsMapOf incs after.now → result ≡ makes_heavier incs self.now.weights.items }
     {
         for old in self.weights.as_slice() {

@@ -3,8 +3,7 @@
 
 pub mod reckoning;
 
-ghost use Rattle.std.specs.Prelude.{◌≡◌, ℕ, ◌<◌, ◌≤◌, List, [], ◌∷◌, ◌++◌, length, Some, None, true, false, option_map, Ok, Err, codes};
-ghost use Rattle.pgp_ids.specs.declared.ask_refusal.AskRefusal.TheVariants as ask;
+ghost use Rattle.std.specs.Prelude.{◌≡◌, ℕ, ◌<◌, ◌≤◌, List, [], ◌∷◌, ◌++◌, length, Some, None, true, false, option_map, codes};
 ghost use Rattle.pgp_ids.specs.declared.entry.Entry.{Entry};
 ghost use Rattle.pgp_ids.specs.declared.entry.Entry.TheVariants as entry;
 ghost use Rattle.pgp_ids.specs.declared.pg_id.PgId.{PgId};
@@ -12,22 +11,15 @@ ghost use Rattle.pgp_ids.specs.declared.refusal.Refusal.{Refusal};
 ghost use Rattle.pgp_ids.specs.declared.refusal.Refusal.TheVariants as refusal;
 ghost use Rattle.pgp_map.specs.Examples.{empty_step, boot};
 ghost use Rattle.pgp_sets.specs.Examples.{copies_group, copies_on_three, resize};
-ghost use Rattle.std.specs.List.{list_any};
 ghost use Rattle.pgp_map.specs.Checked.{are_checked};
 ghost use Rattle.pgp_sets.specs.Sets.{membership};
 ghost use Rattle.pgp_group.specs.Entries.{incs_of};
 ghost use Rattle.pgp_group.specs.Touched.{is_touched, view_at};
 ghost use Rattle.pgp_group.specs.View.{scratch};
-ghost use Rattle.pgp_group.specs.Examples.{at, in_slot, copy, copy_up_to, shard, known_up, maps, on_three, two_shards_down, entries_of_first, modify, before_serving, until_serving, serving_again, others_serve};
+ghost use Rattle.pgp_group.specs.Examples.{at, in_slot, copy, copy_up_to, shard, known_up, maps, on_three, two_shards_down, entries_of_first, modify, until_serving, serving_again, others_serve};
 ghost use Rattle.pgp_log.specs.Fits.{fits, entry_fault, is_close, is_closed};
 ghost use Rattle.pgp_log.specs.Log.{epoch_of, is_taken_at, is_legal, EndsWithClose, EpochsCount};
-ghost use Rattle.pgp_log.specs.Shard.{shard_of};
-ghost use Rattle.pgp_log.specs.World.{World, Step, Reply, opening, after, after_all, replies, view_reply};
-ghost use Rattle.pgp_log.specs.WorldRun.{MayRun, IsDone, is_want, taken_of};
-ghost use Rattle.pgp_log.specs.World.Step.{Submit, Absorb, Ask};
-ghost use Rattle.pgp_log.specs.World.Reply.{Submitted, Absorbed, Asked};
 ghost use Rattle.pgp_log.specs.Locate.{group_of_object};
-ghost use Rattle.pgp_log.specs.Examples.{submits};
 
 use pgp_group::laws::touched as group_laws;
 
@@ -89,25 +81,6 @@ pub fn untouched_groups_stay_as_they_were()
     legal_logs_grow_by_entries_that_fit();
     legal_logs_are_checked_and_short();
 }
-
-/// The log of a world stays legal.
-pub fn world_stays_legal()
-    ensures { (w : World) (step : Step) → is_legal w.log ≡ true → is_legal (after w step).log ≡ true }
-{}
-
-/// A run in which no step is out of memory is answered as the definition says; and each run is the definition's run of the steps
-/// that there was memory for, of which a shard's reading may have been cut short. In each run the log grows by the entries
-/// whose submit was answered with a length, in their order, and by nothing else; and it stays legal.
-pub fn runs_of_a_world()
-    ensures answers { (w last : World) (steps : List Step) (given : List Reply) → MayRun w steps given last
-        → list_any is_want given ≡ false → (given ≡ replies w steps) × (last ≡ after_all w steps) }
-    ensures done { (w last : World) (steps : List Step) (given : List Reply) → MayRun w steps given last
-        → IsDone w steps given last }
-    ensures log { (w last : World) (steps : List Step) (given : List Reply) → MayRun w steps given last
-        → last.log ≡ w.log ++ taken_of steps given }
-    ensures legal { (w last : World) (steps : List Step) (given : List Reply) → MayRun w steps given last
-        → is_legal w.log ≡ true → is_legal last.log ≡ true }
-{}
 
 /// The first incremental leads to epoch 1.
 pub fn first_incremental()
@@ -199,33 +172,4 @@ pub fn object_is_located()
     ensures group { group_of_object (copies_on_three ∷ []) 1 (codes "a") ≡ Some copies_group }
     ensures members { membership (copies_on_three ∷ []) copies_group ≡ Some (on_three 2) }
     ensures no_pool { group_of_object (copies_on_three ∷ []) 9 (codes "a") ≡ None }
-{}
-
-/// A shard answers by what it has read of the log, whatever was submitted since.
-pub fn shard_answers_by_what_it_read()
-    ensures nothing { replies (opening 1) (Submit (entry.Inc copies_on_three) ∷ Ask copies_group ∷ [])
-        ≡ Submitted (Ok 1) ∷ Asked (Err ask.UnknownGroup) ∷ [] }
-    ensures refused { replies (opening 1) (Submit (entry.Inc (empty_step 2)) ∷ Submit (entry.Inc (empty_step 1)) ∷ [])
-        ≡ Submitted (Err refusal.EpochGap) ∷ Submitted (Ok 1) ∷ [] }
-{}
-
-/// The entries by which a group comes to serve, submitted to a world of one shard: its answers follow what it has read.
-pub fn group_comes_to_serve()
-    ensures { replies (opening 1) (submits before_serving ++ Absorb 0 9 ∷ Ask copies_group
-        ∷ Submit (entry.Inc (known_up 2 0 1)) ∷ Ask copies_group ∷ Absorb 0 1 ∷ Ask copies_group ∷ [])
-        ≡ Submitted (Ok 1) ∷ Submitted (Ok 2) ∷ Submitted (Ok 3) ∷ Submitted (Ok 4) ∷ Submitted (Ok 5)
-        ∷ Absorbed (Ok tt) ∷ Asked (view_reply (scratch before_serving copies_group))
-        ∷ Submitted (Ok 6) ∷ Asked (view_reply (scratch before_serving copies_group))
-        ∷ Absorbed (Ok tt) ∷ Asked (view_reply (scratch until_serving copies_group)) ∷ [] }
-{}
-
-/// The same in a world of two shards: the group's shard, the second one, has read nothing where the first alone has read.
-pub fn group_asks_its_own_shard()
-    ensures number { shard_of 2 copies_group ≡ 1 }
-    ensures replies { replies (opening 2) (submits before_serving ++ Absorb 0 9 ∷ Ask copies_group ∷ Absorb 1 9 ∷ Ask copies_group
-        ∷ Submit (entry.Inc (known_up 2 0 1)) ∷ Absorb 0 1 ∷ Ask copies_group ∷ Absorb 1 1 ∷ Ask copies_group ∷ [])
-        ≡ Submitted (Ok 1) ∷ Submitted (Ok 2) ∷ Submitted (Ok 3) ∷ Submitted (Ok 4) ∷ Submitted (Ok 5)
-        ∷ Absorbed (Ok tt) ∷ Asked (Err ask.UnknownGroup) ∷ Absorbed (Ok tt) ∷ Asked (view_reply (scratch before_serving copies_group))
-        ∷ Submitted (Ok 6) ∷ Absorbed (Ok tt) ∷ Asked (view_reply (scratch before_serving copies_group))
-        ∷ Absorbed (Ok tt) ∷ Asked (view_reply (scratch until_serving copies_group)) ∷ [] }
 {}

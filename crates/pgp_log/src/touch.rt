@@ -9,7 +9,7 @@ ghost use Rattle.pgp_sets.specs.Sets.{moves};
 use pgp_ids::{Incremental, PgId, PoolId, PoolSizes, PoolSpec};
 
 /// The incremental may change where the group lies, whatever becomes of devices.
-pub(crate) fn changes_placement(inc: &Incremental, pg: &PgId) -> bool
+pub fn changes_placement(inc: &Incremental, pg: &PgId) -> bool
     ensures { result ≡ changes_placement inc.now pg.now }
 {
     moves_all(inc) || changes_pool(inc, pg.pool) || changes_temp(inc, pg)
@@ -30,7 +30,7 @@ pub fn moves(inc: &Incremental, id: PoolId) -> bool
 }
 
 /// The incremental makes the pool, or changes its sizes.
-pub(crate) fn changes_pool(inc: &Incremental, id: PoolId) -> bool
+pub fn changes_pool(inc: &Incremental, id: PoolId) -> bool
     ensures { result ≡ changes_pool inc.now id }
 {
     makes_pool(inc.pools.as_slice(), id) || has_sizes(inc.sizes.as_slice(), id)
@@ -65,14 +65,14 @@ pub fn moves_none(inc: &Incremental) -> bool
 }
 
 /// The incremental may change where some group lies, whatever becomes of devices.
-pub(crate) fn changes_placements(inc: &Incremental) -> bool
+pub fn changes_placements(inc: &Incremental) -> bool
     ensures { result ≡ changes_placements inc.now }
 {
     moves_all(inc) || !changes_no_pool(inc)
 }
 
 /// The incremental changes the epoch alone: it touches no group.
-pub(crate) fn changes_nothing(inc: &Incremental) -> bool
+pub fn changes_nothing(inc: &Incremental) -> bool
     ensures { result ≡ changes_nothing inc.now }
 {
     !moves_all(inc)
@@ -83,7 +83,7 @@ pub(crate) fn changes_nothing(inc: &Incremental) -> bool
 }
 
 /// The incremental makes no pool, and changes none, and no pg_temp list.
-pub(crate) fn changes_no_pool(inc: &Incremental) -> bool
+pub fn changes_no_pool(inc: &Incremental) -> bool
     ensures { result ≡ changes_no_pool inc.now }
 {
     inc.pools.is_empty() && inc.sizes.is_empty() && inc.temp.is_empty()

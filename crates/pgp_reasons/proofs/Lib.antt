@@ -10,4 +10,8 @@ pub mod LookLemmas
 pub mod WalkLemmas
 pub mod WayLemmas
 pub mod SameWayLemmas
+pub mod WholeWayLemmas
+pub mod ShapeLemmas
+pub mod SpreadLemmas
+pub mod CopiesLemmas
 pub mod AwaitedLemmas

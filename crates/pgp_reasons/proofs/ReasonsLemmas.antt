@@ -1,8 +1,8 @@
 -- What is reckoned from a view and the log is what the group's log says.
-use Rattle.std.proofs.Common.{◌≡◌, ℕ, List, [], Option, Some, None, Bool, true, false, not, length, ◌==◌, if◌then◌else◌, option_map, option_and_then, refl, ap, sym, ◌∙◌, subst, inl, inr}
+use Rattle.std.proofs.Common.{◌≡◌, ℕ, List, [], Option, Some, None, Bool, true, false, not, length, ◌==◌, option_map, option_and_then, refl, ap, sym, ◌∙◌, subst, inl, inr}
 use Rattle.std.specs.List.{Contains}
 use Rattle.std.specs.Option.{option_map_or}
-use Rattle.std.proofs.lemmas.Bool.{cases_Bool}
+use Rattle.std.proofs.lemmas.Bool.{cases_Bool, true≢false}
 use Rattle.std.proofs.lemmas.Option.{same_Some}
 use Rattle.pgp_ids.specs.declared.entry.Entry.{Entry}
 use Rattle.pgp_ids.specs.declared.member.Member.{Member}
@@ -14,6 +14,9 @@ use Rattle.pgp_code.specs.AnyCode.{enough_of, is_by_place}
 use Rattle.pgp_code.specs.Pool.{code_of}
 use Rattle.pgp_code.specs.declared.any.AnyCode.{AnyCode}
 use Rattle.pgp_lists.proofs.Members.{filter-contains, find-some}
+use Rattle.pgp_map.specs.Devices.{lost_at}
+use Rattle.pgp_map.specs.Held.{held_lost_at}
+use Rattle.pgp_map.specs.HeldLaws.{held_lost_at-is}
 use Rattle.pgp_map.specs.MapOf.{IsMapOf}
 use Rattle.pgp_map.specs.Pools.{pool, has_group}
 use Rattle.pgp_map.specs.declared.map.OsdMap.{OsdMap}
@@ -34,11 +37,10 @@ use Rattle.pgp_group.specs.View.{view_of}
 use Rattle.pgp_group.proofs.HeardLemmas.{HasDistinctMembers-last_of}
 use Rattle.pgp_group.proofs.PeerLemmas.{info_of-is}
 use Rattle.pgp_reasons.specs.Gaps.{gaps_in}
-use Rattle.pgp_reasons.specs.GroupWays.{brings_back, ways}
-use Rattle.pgp_reasons.specs.Smallest.{AreSome, smallest}
+use Rattle.pgp_reasons.specs.Smallest.{AreWays}
 use Rattle.pgp_reasons.specs.Ways.{is_relieved}
-use Rattle.pgp_reasons.specs.declared.ways.Way.{Way}
-use Rattle.pgp_reasons.specs.Reasons.{gaps, IsViewed, IsAskedOf}
+use Rattle.pgp_reasons.specs.declared.ways.Ways.{Ways}
+use Rattle.pgp_reasons.specs.Reasons.{gaps, no_ways, AreWaysOf, IsViewed, IsAskedOf}
 use Rattle.pgp_reasons.specs.Reported.{infos_in}
 
 -- ---- the group of a view
@@ -78,12 +80,12 @@ module _ {log : List Entry} {code : AnyCode} {map : OsdMap} {pg : PgId} {view : 
   pub asked-infos : infos_in pg log ≡ infos g
   asked-infos = λ i. infos_in (sym is.pg_is i) (sym is.log_is i)
 
--- what is reckoned from a code, the statuses of a map and a view is what the group's log says
-pub asked-is {ℓ} : {X : Type ℓ} (f : AnyCode → (ℕ → ℕ → Status) → View → X) (g : GroupLog) (code : AnyCode) (map : OsdMap) (view : View)
+-- what is reckoned from a code, from what a map says of devices and from a view is what the group's log says
+pub asked-is {ℓ} : {X : Type ℓ} (f : AnyCode → (ℕ → ℕ → Status) → (ℕ → ℕ) → View → X) (g : GroupLog) (code : AnyCode) (map : OsdMap) (view : View)
     → g.history.code ≡ code → IsMapOf (incs g) map → view ≡ view_of g
-    → f code (held_status map) view ≡ f g.history.code (status (incs g)) (view_of g)
+    → f code (held_status map) (held_lost_at map) view ≡ f g.history.code (status (incs g)) (lost_at (incs g)) (view_of g)
 asked-is f g code map view of_code of_map of_view = λ i.
-    f (sym of_code i) (λ osd first. held_status-is (incs g) map of_map osd first i) (of_view i)
+    f (sym of_code i) (λ osd first. held_status-is (incs g) map of_map osd first i) (λ osd. held_lost_at-is (incs g) map of_map osd i) (of_view i)
 
 -- ---- the best info
 
@@ -97,37 +99,38 @@ best-of : (g : GroupLog) (found : Option Info) → best g ≡ found → option_a
 best-of g None is = refl
 best-of g (Some info) is = info_of-is (heard g) (HasDistinctMembers-last_of (counted_infos g)) info (best-heard g info is)
 
--- the gaps of the info that was found
+-- the info that was found is the best
+pub best-found : (g : GroupLog) (list : List Info) (member : Option Member) (found : Option Info) → member ≡ option_map (λ info. info.member) (best g) → list ≡ heard g
+    → found ≡ option_and_then (info_of list) member → found ≡ best g
+best-found g list member found of_best of_heard is =
+    is ∙ (λ i. option_and_then (info_of (of_heard i)) (of_best i)) ∙ best-of g (best g) refl
+
 pub gaps-found : (g : GroupLog) (list : List Info) (member : Option Member) (found : Option Info) → member ≡ option_map (λ info. info.member) (best g) → list ≡ heard g
     → found ≡ option_and_then (info_of list) member → option_map_or (λ info. gaps_in info (reported g info.member)) found [] ≡ gaps g
 gaps-found g list member found of_best of_heard is =
-    let same : found ≡ best g = is ∙ (λ i. option_and_then (info_of (of_heard i)) (of_best i)) ∙ best-of g (best g) refl in
-    ap (λ (one : Option Info). option_map_or (λ (info : Info). gaps_in info (reported g info.member)) one []) same
+    ap (λ (one : Option Info). option_map_or (λ (info : Info). gaps_in info (reported g info.member)) one []) (best-found g list member found of_best of_heard is)
 
 -- ---- what brings the group back
 
-down-is : (g : GroupLog) → not (length (prior g).blocked_by == 0) ≡ (prior g).down
-down-is g =
-    ap (λ (found : Prior). found.down)
+down-is : (g : GroupLog) (view : View) (none : Bool) → view ≡ view_of g → (length view.blocked_by == 0) ≡ none → (prior g).down ≡ not none
+down-is g view none of_view is =
+    sym (ap (λ (found : Prior). found.down)
     (prior-by_lists (enough_of g.history.code) (is_by_place g.history.code) (status (incs g)) (les g) (past g) g.history.current
-    (prior g).probe (prior g).blocked_by (length (prior g).blocked_by == 0) refl refl refl)
+    (prior g).probe (prior g).blocked_by (length (prior g).blocked_by == 0) refl refl refl))
+    ∙ ap not (ap (λ (v : View). length v.blocked_by == 0) (sym of_view) ∙ is)
 
-ways-some : (way : Way) (g : GroupLog) (sets : List (List ℕ)) (more : Bool) → (length (prior g).blocked_by == 0) ≡ false
-    → AreSome (prior g).blocked_by (smallest (brings_back way g) (prior g).blocked_by) sets more → AreSome (prior g).blocked_by (ways way g) sets more
-ways-some way g sets more some are =
-    let down : (prior g).down ≡ true = sym (down-is g) ∙ ap not some in
-    let all : ways way g ≡ smallest (brings_back way g) (prior g).blocked_by =
-    ap (λ (b : Bool). if b then smallest (brings_back way g) (prior g).blocked_by else []) down in
-    subst (λ (l : List (List ℕ)). AreSome (prior g).blocked_by l sets more) (sym all) are
+-- a group that is down
+pub ways-asked : (g : GroupLog) (code : AnyCode) (map : OsdMap) (view : View) (ways : Ways) → g.history.code ≡ code → IsMapOf (incs g) map → view ≡ view_of g → (length view.blocked_by == 0) ≡ false
+    → AreWays (λ osds. is_relieved (enough_of code) (is_by_place code) (held_status map) view.les view.intervals osds []) view.blocked_by ways → AreWaysOf g ways
+ways-asked g code map view ways of_code of_map of_view some are =
+    record {
+      down = λ _. subst (λ (P : Type 0). P)
+          (asked-is (λ c s lost v. AreWays (λ osds. is_relieved (enough_of c) (is_by_place c) s v.les v.intervals osds []) v.blocked_by ways) g code map view of_code of_map of_view)
+          are;
+      up = λ up. absurd (true≢false (sym (down-is g view false of_view some) ∙ up));
+    }
 
--- the same, of what the code was asked
-pub ways-asked : (way : Way) (g : GroupLog) (code : AnyCode) (map : OsdMap) (view : View) (sets : List (List ℕ)) (more : Bool)
-    → g.history.code ≡ code → IsMapOf (incs g) map → view ≡ view_of g → (length view.blocked_by == 0) ≡ false
-    → AreSome view.blocked_by (smallest (is_relieved (enough_of code) (is_by_place code) (held_status map) view.les view.intervals way) view.blocked_by) sets more
-    → AreSome (prior g).blocked_by (ways way g) sets more
-ways-asked way g code map view sets more of_code of_map of_view some are =
-    ways-some way g sets more (ap (λ (v : View). length v.blocked_by == 0) (sym of_view) ∙ some)
-    (subst (λ (P : Type 0). P)
-    (asked-is (λ c s v. AreSome v.blocked_by (smallest (is_relieved (enough_of c) (is_by_place c) s v.les v.intervals way) v.blocked_by) sets more)
-    g code map view of_code of_map of_view)
-    are)
+-- one that isn't
+pub no-ways : (g : GroupLog) (view : View) (ways : Ways) → view ≡ view_of g → (length view.blocked_by == 0) ≡ true → ways ≡ no_ways → AreWaysOf g ways
+no-ways g view ways of_view none is =
+    record { down = λ down. absurd (true≢false (sym down ∙ down-is g view true of_view none)); up = λ _. is }

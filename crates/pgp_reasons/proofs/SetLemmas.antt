@@ -11,6 +11,15 @@ use Rattle.std.proofs.Math.ListN.{drop_of_length-le}
 use Rattle.pgp_lists.proofs.Members.{Contains-nil, Contains-here, Contains-later, Contains-first, Contains-cases, append-contains, contains-append, map-contains, contains-map, any-contains, contains-any, none-contains, filter-contains, contains-filter, flat_map-contains, contains-flat_map}
 use Rattle.pgp_reasons.specs.Smallest.{sets_of, each_but_one, is_smallest, all_sets, smallest, IsPartOf}
 
+-- ---- whether a set has a device
+
+pub held-one : (osds : List ℕ) (osd : ℕ) → list_any (nat_eq osd) osds ≡ true → Contains osds osd
+held-one osds osd one =
+    let found = any-contains (nat_eq osd) osds one in subst (Contains osds) (sym (eqb-true osd found.0 found.1.1)) found.1.0
+
+pub one-held : (osds : List ℕ) (osd : ℕ) → Contains osds osd → list_any (nat_eq osd) osds ≡ true
+one-held osds osd in' = contains-any (nat_eq osd) osds osd in' (eq-eqb osd osd refl)
+
 -- ---- a set without one of its devices
 
 pub length-each : (set : List ℕ) → length (each_but_one set) ≡ length set
@@ -56,17 +65,17 @@ too_few (suc n) [] few = refl
 too_few (suc n) (osd ∷ osds) few = rw (too_few n osds (omega arith), too_few (suc n) osds (omega arith)) refl
 
 -- such a set has the first device, or it hasn't
-set-cases : (n osd : ℕ) (osds set : List ℕ) → Contains (sets_of (suc n) (osd ∷ osds)) set
+pub set-cases : (n osd : ℕ) (osds set : List ℕ) → Contains (sets_of (suc n) (osd ∷ osds)) set
     → ((part : List ℕ) × (Contains (sets_of n osds) part × (osd ∷ part ≡ set))) ⊎ Contains (sets_of (suc n) osds) set
 set-cases n osd osds set in' = elim (append-contains (map (λ set. osd ∷ set) (sets_of n osds)) (sets_of (suc n) osds) set in') [
   | inl with' ↦ inl (map-contains (λ set. osd ∷ set) (sets_of n osds) set with')
   | inr without ↦ inr without
 ]
 
-with-first : (n osd : ℕ) (osds part : List ℕ) → Contains (sets_of n osds) part → Contains (sets_of (suc n) (osd ∷ osds)) (osd ∷ part)
+pub with-first : (n osd : ℕ) (osds part : List ℕ) → Contains (sets_of n osds) part → Contains (sets_of (suc n) (osd ∷ osds)) (osd ∷ part)
 with-first n osd osds part in' = contains-append _ (sets_of (suc n) osds) _ (inl (contains-map (λ set. osd ∷ set) (sets_of n osds) part in'))
 
-without-first : (n osd : ℕ) (osds set : List ℕ) → Contains (sets_of n osds) set → Contains (sets_of n (osd ∷ osds)) set
+pub without-first : (n osd : ℕ) (osds set : List ℕ) → Contains (sets_of n osds) set → Contains (sets_of n (osd ∷ osds)) set
 without-first zero osd osds set in' = in'
 without-first (suc n) osd osds set in' = contains-append (map (λ set. osd ∷ set) (sets_of n osds)) (sets_of (suc n) osds) set (inr in')
 
@@ -215,7 +224,7 @@ module _ (enough : List ℕ → Bool) (monotone : IsMonotone enough) where
 -- ---- the smallest are all that there is to know
 
 -- the sets of some of the devices are sets of them
-filtered-set : (test : ℕ → Bool) (n : ℕ) (osds set : List ℕ) → Contains (sets_of n (filter test osds)) set → Contains (sets_of n osds) set
+pub filtered-set : (test : ℕ → Bool) (n : ℕ) (osds set : List ℕ) → Contains (sets_of n (filter test osds)) set → Contains (sets_of n osds) set
 filtered-set test n [] set in' = in'
 filtered-set test zero (osd ∷ osds) set in' = in'
 filtered-set test (suc n) (osd ∷ osds) set in' = elim (cases_Bool (test osd)) [
@@ -265,10 +274,8 @@ module _ (enough : List ℕ → Bool) (monotone : IsMonotone enough) where
   smallest-within osds some is more =
       let test : ℕ → Bool = λ osd. list_any (nat_eq osd) some in
       let kept : List ℕ = filter test osds in
-      let each : IsPartOf some kept = λ o o-in. contains-filter test osds o (is o o-in) (contains-any (nat_eq o) some o o-in (eq-eqb o o refl)) in
-      let back : IsPartOf kept some = λ o o-in.
-      let found = any-contains (nat_eq o) some (filter-contains test osds o o-in).1 in
-      subst (Contains some) (sym (eqb-true o found.0 found.1.1)) found.1.0 in
+      let each : IsPartOf some kept = λ o o-in. contains-filter test osds o (is o o-in) (one-held some o o-in) in
+      let back : IsPartOf kept some = λ o o-in. held-one some o (filter-contains test osds o o-in).1 in
       let set : List ℕ = lean enough [] kept in
       let small = filter-contains (is_smallest enough) (all_sets kept) set (lean-smallest enough monotone kept (monotone some kept each more)) in
       let size = flat_map-contains (λ n. sets_of n kept) (range_with_len 0 (length kept + 1)) set small.0 in

@@ -10,7 +10,7 @@ use Rattle.pgp_lists.proofs.Lists.{flat_map-push}
 use Rattle.pgp_lists.proofs.Ranges.{range_with_len-suc}
 use Rattle.pgp_lists.proofs.Members.{contains-append, map-contains, contains-any}
 use Rattle.pgp_reasons.specs.Looks.{looks_below, most_looks, HasStopped}
-use Rattle.pgp_reasons.specs.Smallest.{sets_of, each_but_one, is_smallest, smallest, smallest_with, few_devices, most_sets, AreFirstOf, AreMany, AreSome}
+use Rattle.pgp_reasons.specs.Smallest.{sets_of, each_but_one, is_smallest, smallest, smallest_with, few_devices, most_sets, AreFirstOf, AreMany, AreSome, IsSpread}
 use Rattle.pgp_reasons.proofs.LookLemmas.{few-looks, stopped-more, stopped-same}
 use Rattle.pgp_reasons.proofs.SetLemmas.{too_few, set-part, first-of, each-append, filter-none, append-part, IsMonotone, fewer-short}
 
@@ -156,14 +156,6 @@ below-first enough osds n (suc more) =
           ∙ append_assoc (smallest_below enough osds n) fewer.0 (filter (is_smallest enough) (sets_of (more + n) osds)),
     )
 
--- a walk that stopped at this size
-pub stopped-at : (enough : List ℕ → Bool) (osds : List ℕ) (n : ℕ) (listed : List (List ℕ)) {whole : Bool} → n < length osds + 1 → AreFirstOf whole (smallest_below enough osds (n + 1)) listed → AreFirstOf false (smallest enough osds) listed
-stopped-at enough osds n listed below is =
-    let rest = below-first enough osds (n + 1) (length osds - n) in
-    let size : length osds - n + (n + 1) ≡ length osds + 1 = omega arith in
-    let all : smallest_below enough osds (n + 1) ++ rest.0 ≡ smallest enough osds = sym rest.1 ∙ ap (smallest_below enough osds) size in
-    subst (λ (l : List (List ℕ)). AreFirstOf false l listed) all (first-stopped (smallest_below enough osds (n + 1)) rest.0 listed is)
-
 -- the walk of one size begins where that of smaller ones ended
 pub size-begins : (enough : List ℕ → Bool) (chosen osds : List ℕ) (n : ℕ) (found : List (List ℕ)) → found ≡ smallest_below enough osds n → chosen ≡ [] → found ++ smallest_with enough chosen n osds ≡ smallest_below enough osds (n + 1)
 size-begins enough chosen osds n found is none = (λ i. is i ++ smallest_with enough (none i) n osds) ∙ sym (size-more enough osds n)
@@ -175,15 +167,13 @@ said-is enough shown osds said b same is said-b = ap enough (sym same) ∙ sym i
 
 -- ---- what is told in the end
 
-pub listed-all : (osds : List ℕ) (all listed : List (List ℕ)) → listed ≡ all → length listed ≤ most_sets → AreSome osds all listed false
-listed-all osds all listed same few =
-    record {
-      each = λ _. same;
-      some = inl (subst (λ (l : List (List ℕ)). AreFirstOf true l listed) same (first-all true listed));
-      none = λ e. sym (ap length same) ∙ e;
-      bound = few;
-      word = λ no. absurd (true≢false (sym no));
-    }
+pub listed-all : (enough : List ℕ → Bool) (osds : List ℕ) (listed : List (List ℕ)) → listed ≡ smallest enough osds → length listed ≤ most_sets → AreSome enough osds listed false
+listed-all enough osds listed same few =
+    record { each = λ _. same; bound = few; spread = λ no. absurd (true≢false (sym no)); word = λ no. absurd (true≢false (sym no)) }
+
+pub listed-some : (enough : List ℕ → Bool) (osds : List ℕ) (listed : List (List ℕ)) → IsSpread enough osds listed → AreMany osds (smallest enough osds) → AreSome enough osds listed true
+listed-some enough osds listed is many =
+    record { each = λ no. absurd (true≢false no); bound = is.bound; spread = λ _. is; word = λ _. many }
 
 -- a walk of one size that went through all
 pub listed-more : {whole : Bool} (old here all listed : List (List ℕ)) → whole ≡ true → old ++ here ≡ all → AreFirstOf whole (old ++ here) listed → listed ≡ all
@@ -191,12 +181,12 @@ listed-more old here all listed went is first = sym (append-nil listed) ∙ ap (
 
 -- why a walk stopped at this size
 pub many-at : (enough : List ℕ → Bool) (osds : List ℕ) (n looks : ℕ) (all listed : List (List ℕ)) → n < length osds + 1 → all ≡ smallest_below enough osds (n + 1) → most_looks ≤ looks + looks_below (length osds) (n + 1)
-    → HasStopped looks all listed → AreMany osds (smallest enough osds) listed
+    → HasStopped looks all listed → AreMany osds (smallest enough osds)
 many-at enough osds n looks all listed below is counted (inl full) =
     let rest = below-first enough osds (n + 1) (length osds - n) in
     let size : length osds - n + (n + 1) ≡ length osds + 1 = omega arith in
     let whole : smallest enough osds ≡ all ++ rest.0 = ap (smallest_below enough osds) (sym size) ∙ rest.1 ∙ ap (λ l. l ++ rest.0) (sym is) in
-    inl (full.0, omega (arith, full.1, ap length whole, length-append all rest.0))
+    inl (omega (arith, full.1, ap length whole, length-append all rest.0))
 many-at enough osds n looks all listed below is counted (inr none) = elim (cases_Bool (nat_lt few_devices (length osds))) [
   | inl many ↦ inr (grind (arith, nat_tests))
   | inr few ↦

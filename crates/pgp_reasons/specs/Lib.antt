@@ -1,11 +1,15 @@
 pub mod Lacking
+pub mod Fates
 pub mod Blocking
 pub mod Gaps
 pub mod Reported
 pub mod Smallest
 pub mod Looks
+pub mod Shape
 pub mod Short
 pub mod Ways
 pub mod WayLaws
 pub mod GroupWays
+pub mod Price
+pub mod Copies
 pub mod Reasons

@@ -1,6 +1,9 @@
 -- Sets of devices, and the smallest of those that are enough for something. `enough` says whether a set is enough.
-use Rattle.std.specs.Prelude.{◌≡◌, ◌⊎◌, ℕ, zero, suc, ◌+◌, ◌<◌, ◌≤◌, List, [], ◌∷◌, ◌++◌, Bool, true, false, not, nat_eq, ◌&&◌, length, map, filter, flat_map, Contains}
+use Rattle.std.specs.Prelude.{◌≡◌, ◌⊎◌, ℕ, zero, suc, ◌+◌, ◌<◌, ◌≤◌, List, [], ◌∷◌, ◌++◌, Bool, true, false, not, nat_eq, nat_le, ◌&&◌, length, map, filter, flat_map, count_by, Contains}
 use Rattle.std.specs.List.{list_any, range_with_len}
+use Rattle.pgp_reasons.specs.declared.ways.Ways.{Ways}
+use Rattle.pgp_reasons.specs.declared.ways.Ways.TheVariants.{Any, Listed}
+use Rattle.pgp_reasons.specs.declared.ways.AnyOf.{AnyOf}
 
 -- the sets of this many of the devices, in the order of the devices
 abbrev pub sets_of : ℕ → List ℕ → List (List ℕ)
@@ -43,12 +46,6 @@ pub record AreFirstOf (whole : Bool) (all listed : List (List ℕ)) : Type 0 whe
   pub are : all ≡ listed ++ others
   pub none_other : whole ≡ true → others ≡ []
 
--- one of the sets of `all`, and no other
-pub record IsOneOf (all listed : List (List ℕ)) : Type 0 where
-  pub set : List ℕ
-  pub is : listed ≡ set ∷ []
-  pub there : Contains all set
-
 -- how many sets are listed at most
 abbrev pub most_sets : ℕ
 most_sets = 16
@@ -57,15 +54,41 @@ most_sets = 16
 abbrev pub few_devices : ℕ
 few_devices = 9
 
--- there are more sets than are listed, and as many are listed as may be; or there were too many devices to judge all their sets
-abbrev pub AreMany : List ℕ → (all listed : List (List ℕ)) → Type 0
-AreMany osds all listed = (length listed ≡ most_sets) × (most_sets < length all) ⊎ (few_devices < length osds)
+-- there are more sets than may be listed, or there were too many devices to judge all their sets
+abbrev pub AreMany : List ℕ → (all : List (List ℕ)) → Type 0
+AreMany osds all = (most_sets < length all) ⊎ (few_devices < length osds)
 
--- The sets of these devices are those of `all`; where there may be more, they are the first of them, or one of them. Where there
--- is one, one is listed, and no more are than may be. That there may be more is only said where there are many.
-pub record AreSome (osds : List ℕ) (all listed : List (List ℕ)) (more : Bool) : Type 0 where
-  pub each : more ≡ false → listed ≡ all
-  pub some : AreFirstOf (not more) all listed ⊎ IsOneOf all listed
-  pub none : length listed ≡ 0 → length all ≡ 0
+-- each of these sets has the device
+abbrev pub AllHave : List (List ℕ) → ℕ → Type 0
+AllHave sets osd = (set : List ℕ) → Contains sets set → Contains set osd
+
+-- These are some of the smallest sets of the devices that are enough, one at least and no more than may be. Fewer than may be have
+-- no device in common, except for devices that all sets have which are enough.
+pub record IsSpread (enough : List ℕ → Bool) (osds : List ℕ) (listed : List (List ℕ)) : Type 0 where
+  pub some : (set : List ℕ) → Contains listed set → Contains (smallest enough osds) set
+  pub one : 0 < length listed
   pub bound : length listed ≤ most_sets
-  pub word : more ≡ true → AreMany osds all listed
+  pub common : length listed < most_sets → (osd : ℕ) → AllHave listed osd
+      → (set : List ℕ) → IsPartOf set osds → enough set ≡ true → Contains set osd
+
+-- These are the smallest sets of the devices that are enough, no more than may be. Where there may be others, some are listed.
+-- That is only said where there are many.
+pub record AreSome (enough : List ℕ → Bool) (osds : List ℕ) (listed : List (List ℕ)) (more : Bool) : Type 0 where
+  pub each : more ≡ false → listed ≡ smallest enough osds
+  pub bound : length listed ≤ most_sets
+  pub spread : more ≡ true → IsSpread enough osds listed
+  pub word : more ≡ true → AreMany osds (smallest enough osds)
+
+-- Of these devices a set is enough exactly if it has at least so many of some of them. There is more than one way to choose
+-- those.
+pub record IsAnyOf (enough : List ℕ → Bool) (osds : List ℕ) (any : AnyOf) : Type 0 where
+  pub exact : (set : List ℕ) → IsPartOf set osds → enough set ≡ nat_le any.least (count_by (holds set) any.osds)
+  pub test : ℕ → Bool
+  pub are : any.osds ≡ filter test osds
+  pub some : 0 < any.least
+  pub fewer : any.least < length any.osds
+
+-- all sets are those of any so many of some devices, or these are listed
+abbrev pub AreWays : (List ℕ → Bool) → List ℕ → Ways → Type 0
+AreWays enough osds (Any any) = IsAnyOf enough osds any
+AreWays enough osds (Listed listed) = AreSome enough osds listed.sets listed.more

@@ -1,31 +1,26 @@
 //! The past intervals for which a group has to wait, and what is known of each.
 
-ghost use Rattle.std.specs.Prelude.{◌≡◌, nat_lt, max, map as mapped, unwrap_or, IfOk, OnOk};
-ghost use Rattle.pgp_lists.specs.Ordered.{IsAscending, ascending, with_items};
-ghost use Rattle.pgp_prior.specs.Blocks.{down_osds};
+ghost use Rattle.std.specs.Prelude.{◌≡◌, max, map as mapped, unwrap_or, IfOk};
+ghost use Rattle.std.specs.Option.{option_copied};
+ghost use Rattle.pgp_lists.specs.Last.{last_where};
+ghost use Rattle.pgp_map.specs.Held.{held_lost_at};
+ghost use Rattle.pgp_prior.specs.Blocks.{matters};
 ghost use Rattle.pgp_sets.specs.Status.{held_status};
-ghost use Rattle.pgp_reasons.specs.Blocking.{blocking_of, is_in_interval, last_within, blocking_by};
+ghost use Rattle.pgp_reasons.specs.Blocking.{blocking_of, clean_of, is_in_interval, last_within, blocking_by, was_clean_in};
 
+use super::fates::IntervalNow;
 use super::lacking::lacking;
 use pgp_code::{AnyCode, Recoverable};
-use pgp_ids::{Epoch, Info, OsdId, Osds, Past, Seq};
-use pgp_lists::insert_in_order;
+use pgp_ids::{Epoch, Info, Past, Seq};
 use pgp_map::OsdMap;
-use pgp_prior::{blocks, is_down, members_of, settled_slots};
-use pgp_sets::StatusOf;
+use pgp_prior::{blocks, settled_slots};
 use std::alloc::{AllocError, Global};
 
 /// A past interval for which a group has to wait.
 #[derive(Drop)]
 pub struct Blocking {
-    /// Its first epoch.
-    pub first: Epoch,
-    /// Its last epoch.
-    pub last: Epoch,
-    /// Who served the group then.
-    pub acting: Osds,
-    /// Its acting devices that are down, in ascending order, each once.
-    pub down: Seq<OsdId>,
+    /// Its members, and what has become of its writes.
+    pub interval: IntervalNow,
     /// How many more slots would be enough.
     pub lacks: usize,
     /// The last epoch within it in which the group was clean, if a report names one.
@@ -41,17 +36,12 @@ impl Blocking {
         infos: &[Info],
         interval: &Past,
     ) -> Result<Blocking, AllocError>
-        ensures { IfOk result (λ told. told
-            ≡ blocking_by code.now (held_status map.now) (mapped (λ info. info.last_epoch_clean) infos.now) interval.now) }
+        ensures { IfOk result (λ told. told ≡ blocking_by code.now (held_status map.now) (held_lost_at map.now)
+            (mapped (λ info. info.last_epoch_clean) infos.now) interval.now) }
     {
-        let by_place = code.by_place();
-        let down = down_osds(alloc, by_place, map, interval)?;
         Ok(Blocking {
-            first: interval.first,
-            last: interval.last,
-            acting: interval.members.acting.copy(),
-            down,
-            lacks: lacking(code, settled_slots(by_place, map, interval)),
+            interval: IntervalNow::of(alloc, code, map, map, interval)?,
+            lacks: lacking(code, settled_slots(code.by_place(), map, interval)),
             clean: last_clean(infos, interval),
         })
     }
@@ -66,8 +56,8 @@ pub(crate) fn intervals_that_block(
     les: Epoch,
     past: &[Past],
 ) -> Result<Seq<Blocking>, AllocError>
-    ensures { IfOk result (λ list. list
-        ≡ blocking_of code.now (held_status map.now) (mapped (λ info. info.last_epoch_clean) infos.now) les past.now) }
+    ensures { IfOk result (λ list. list ≡ blocking_of code.now (held_status map.now) (held_lost_at map.now)
+        (mapped (λ info. info.last_epoch_clean) infos.now) les past.now) }
 {
     let mut list = Vec::new(alloc);
     for interval in past {
@@ -78,36 +68,51 @@ pub(crate) fn intervals_that_block(
     Ok(Seq::from_vec(list))
 }
 
-/// The acting devices of the interval that are down, in ascending order, each once.
-fn down_osds(
+/// The last of the past intervals in which the group was clean, of those that it has to reckon with, where it last began to serve
+/// in the epoch `les` and has these infos.
+pub(crate) fn clean_of(
     alloc: Global,
-    by_place: bool,
+    code: &AnyCode,
     map: &OsdMap,
-    interval: &Past,
-) -> Result<Seq<OsdId>, AllocError>
-    ensures { IfOk result (λ list. list ≡ ascending nat_lt (down_osds by_place (held_status map.now) interval.now)) }
+    infos: &[Info],
+    les: Epoch,
+    past: &[Past],
+) -> Result<Option<IntervalNow>, AllocError>
+    ensures { IfOk result (λ clean. clean ≡ clean_of code.now (held_status map.now) (held_lost_at map.now)
+        (mapped (λ info. info.last_epoch_clean) infos.now) les past.now) }
 {
-    let mut list = Vec::new(alloc);
-    add_down(&mut list, by_place, map, interval)?;
-    Ok(Seq::from_vec(list))
+    match last_clean_interval(infos, les, past) {
+        Some(interval) => Ok(Some(IntervalNow::of(alloc, code, map, map, interval)?)),
+        None => Ok(None),
+    }
 }
 
-/// Adds the acting devices of the interval that are down.
-pub(crate) fn add_down(
-    list: &mut Vec<OsdId>,
-    by_place: bool,
-    map: &OsdMap,
-    interval: &Past,
-) -> Result<(), AllocError>
-    requires { IsAscending nat_lt list.old.items }
-    ensures { OnOk result (list.new.items ≡ with_items nat_lt (down_osds by_place (held_status map.now) interval.now) list.old.items) }
+/// The last of the past intervals in which the group was clean, of those that it has to reckon with.
+fn last_clean_interval<'a>(infos: &[Info], les: Epoch, past: &'a [Past]) -> Option<&'a Past>
+    ensures { option_copied result ≡ last_where (was_clean_in (mapped (λ info. info.last_epoch_clean) infos.now) les) past.now }
 {
-    for member in members_of(by_place, &interval.members.acting) {
-        if is_down(map.status(member.osd, interval.first)) {
-            insert_in_order(list, member.osd)?;
+    let mut last = None;
+    for interval in past {
+        if was_clean_in(infos, les, interval) {
+            last = Some(interval);
         }
     }
-    Ok(())
+    last
+}
+
+/// Whether the group was clean in the interval, and has to reckon with its writes.
+fn was_clean_in(infos: &[Info], les: Epoch, interval: &Past) -> bool
+    ensures { result ≡ was_clean_in (mapped (λ info. info.last_epoch_clean) infos.now) les interval.now }
+{
+    matters(les, interval) && last_clean(infos, interval).is_some()
+}
+
+/// Whether the group has to reckon with writes of the interval: it may have gone read-write, and it didn't end before the epoch
+/// `les`, in which the group last began to serve.
+pub(crate) fn matters(les: Epoch, interval: &Past) -> bool
+    ensures { result ≡ matters les interval.now }
+{
+    interval.rw && les <= interval.last
 }
 
 /// The last epoch within the interval in which the group was clean, by these infos.

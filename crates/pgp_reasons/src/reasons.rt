@@ -5,9 +5,11 @@ ghost use Rattle.pgp_group.specs.GroupLog.{GroupLog};
 ghost use Rattle.pgp_group.specs.Heard.{heard as heard_by};
 ghost use Rattle.pgp_group.specs.Peering.{best as best_copy, info_of};
 ghost use Rattle.pgp_group.specs.Present.{IsPresent};
-ghost use Rattle.pgp_reasons.specs.Reasons.{gaps, short as short_by, AreReasons, AreWaits, IsViewed, IsAskedOf};
+ghost use Rattle.pgp_reasons.specs.Reasons.{copies as copies_by, gaps, short as short_by, AreReasons, AreWaits, IsViewed, IsAskedOf};
 
 use super::blocking::Blocking;
+use super::copies::{Copies, copies_of};
+use super::fates::IntervalNow;
 use super::gap::Gap;
 use super::gaps::gaps;
 use super::heard::{heard, infos_in};
@@ -27,10 +29,15 @@ pub struct Reasons {
     pub heard: Seq<Info>,
     /// The past intervals that block the group, in ascending order.
     pub blocking: Seq<Blocking>,
-    /// The smallest sets of devices which, once they boot, leave the group not down. None if it isn't down.
-    pub starts: Ways,
-    /// The same for devices that are declared lost.
-    pub losses: Ways,
+    /// The smallest sets of devices which, once they boot, leave the group not down. None if it isn't down. Each device of a set
+    /// is down and in the map, so in place of booting it may be declared lost: that comes to the same for this, but not for what
+    /// it holds, as [`price_of`](crate::price_of) says.
+    pub ways: Ways,
+    /// The last past interval in which the group was clean, of those that it has to reckon with: the copies of its acting devices
+    /// were complete.
+    pub clean: Option<IntervalNow>,
+    /// The copies that were heard and may be followed.
+    pub copies: Copies,
     /// What its acting set lacks, and which devices that are down may be what it lacks.
     pub short: Short,
     /// The numbers of writes that the log of the best copy lacks. None if there is no best copy.
@@ -82,21 +89,28 @@ fn reasons_by(
         view.best,
         heard.as_slice(),
     )?;
+    let copies = copies_of(
+        alloc,
+        code,
+        info_of_best(heard.as_slice(), view.best),
+        heard.as_slice(),
+    )?;
     let waits = waits_of(alloc, code, map, infos, view)?;
     let short = short_of(alloc, code, map, view)?;
-    Ok(joined(heard, waits, short, gaps))
+    Ok(joined(heard, waits, copies, short, gaps))
 }
 
 /// The reasons of these parts.
-fn joined(heard: Seq<Info>, waits: Waits, short: Short, lacked: Seq<Gap>) -> Reasons
-    ensures { (g : GroupLog) → heard ≡ heard_by g → AreWaits g waits → short ≡ short_by g → lacked ≡ gaps g
+fn joined(heard: Seq<Info>, waits: Waits, copies: Copies, short: Short, lacked: Seq<Gap>) -> Reasons
+    ensures { (g : GroupLog) → heard ≡ heard_by g → AreWaits g waits → copies ≡ copies_by g → short ≡ short_by g → lacked ≡ gaps g
         → AreReasons g result }
 {
     Reasons {
         heard,
         blocking: waits.blocking,
-        starts: waits.starts,
-        losses: waits.losses,
+        ways: waits.ways,
+        clean: waits.clean,
+        copies,
         short,
         gaps: lacked,
     }
@@ -148,8 +162,12 @@ fn nothing(alloc: Global) -> Reasons {
     Reasons {
         heard: Seq::new(alloc),
         blocking: Seq::new(alloc),
-        starts: no_ways(alloc),
-        losses: no_ways(alloc),
+        ways: no_ways(alloc),
+        clean: None,
+        copies: Copies {
+            members: Seq::new(alloc),
+            lacks: 0,
+        },
         short: Short {
             lacks: 0,
             fallen: Seq::new(alloc),

@@ -11,7 +11,7 @@ use std::alloc::{AllocError, Global};
 const LOOKS: usize = 10_000;
 
 /// How many sets a walk lists before it stops.
-const MOST_SETS: usize = 16;
+pub(crate) const MOST_SETS: usize = 16;
 
 /// What a walk over sets of devices has found of the smallest that are enough, and how far it may go on.
 #[derive(Drop)]

@@ -4,12 +4,13 @@ ghost use Rattle.std.specs.Prelude.{◌≡◌, IfOk};
 ghost use Rattle.pgp_sets.specs.Status.{held_status};
 ghost use Rattle.pgp_reasons.specs.Short.{fallen as fallen_of, short_of as short_by};
 
-use super::blocking::add_down;
+use super::fates::add_with;
 use super::lacking::lacking;
 use pgp_code::{AnyCode, Recoverable};
 use pgp_ids::{Epoch, OsdId, Past, Seq, View};
 use pgp_interval::acting_slots;
 use pgp_map::OsdMap;
+use pgp_sets::Status;
 use std::alloc::{AllocError, Global};
 
 /// What the acting set of a group lacks, and which devices that are down may be what it lacks.
@@ -55,7 +56,7 @@ fn fallen(
     let mut list = Vec::new(alloc);
     for interval in past {
         if les <= interval.last {
-            add_down(&mut list, by_place, map, interval)?;
+            add_with(&mut list, Status::Down, by_place, map, interval)?;
         }
     }
     Ok(Seq::from_vec(list))

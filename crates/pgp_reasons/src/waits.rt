@@ -1,17 +1,15 @@
 //! What a group waits for, and what brings it back.
 
-ghost use Rattle.std.specs.Prelude.{◌≡◌, [], false, IfOk};
+ghost use Rattle.std.specs.Prelude.{◌≡◌, IfOk};
 ghost use Rattle.pgp_map.specs.MapOf.{IsMapOf};
 ghost use Rattle.pgp_group.specs.GroupLog.{GroupLog, incs, infos as told};
-ghost use Rattle.pgp_group.specs.Peering.{prior};
 ghost use Rattle.pgp_group.specs.View.{view_of};
-ghost use Rattle.pgp_reasons.specs.GroupWays.{ways as ways_of};
-ghost use Rattle.pgp_reasons.specs.Smallest.{AreSome};
-ghost use Rattle.pgp_reasons.specs.Reasons.{AreWaits};
+ghost use Rattle.pgp_reasons.specs.Reasons.{AreWaits, AreWaysOf, no_ways};
 
-use super::blocking::{Blocking, intervals_that_block};
+use super::blocking::{Blocking, clean_of, intervals_that_block};
+use super::fates::IntervalNow;
 use super::relief::smallest;
-use super::ways::{Way, Ways};
+use super::ways::{Sets, Ways};
 use pgp_code::AnyCode;
 use pgp_ids::{Info, Seq, View};
 use pgp_map::OsdMap;
@@ -23,9 +21,9 @@ pub(crate) struct Waits {
     /// The past intervals that block it, in ascending order.
     pub(crate) blocking: Seq<Blocking>,
     /// The smallest sets of devices which, once they boot, leave it not down.
-    pub(crate) starts: Ways,
-    /// The same for devices that are declared lost.
-    pub(crate) losses: Ways,
+    pub(crate) ways: Ways,
+    /// The last past interval in which it was clean.
+    pub(crate) clean: Option<IntervalNow>,
 }
 
 /// What the group of this view and of these infos waits for.
@@ -41,42 +39,35 @@ pub(crate) fn waits_of(
 {
     let past = view.intervals.as_slice();
     let blocking = intervals_that_block(alloc, code, map, infos, view.les, past)?;
-    let starts = ways(alloc, code, map, view, Way::Start)?;
-    let losses = ways(alloc, code, map, view, Way::GiveUp)?;
+    let ways = ways(alloc, code, map, view)?;
+    let clean = clean_of(alloc, code, map, infos, view.les, past)?;
     Ok(Waits {
         blocking,
-        starts,
-        losses,
+        ways,
+        clean,
     })
 }
 
-/// The smallest sets of devices that leave the group of the view not down in this way; none if it isn't down. Only devices that
+/// The smallest sets of devices that leave the group of the view not down once they boot; none if it isn't down. Only devices that
 /// block it are tried: no other device that is down is a member of an interval that blocks.
-fn ways(
-    alloc: Global,
-    code: &AnyCode,
-    map: &OsdMap,
-    view: &View,
-    way: Way,
-) -> Result<Ways, AllocError>
-    ensures { IfOk result (λ list. (g : GroupLog) → g.history.code ≡ code.now → IsMapOf (incs g) map.now → view.now ≡ view_of g
-        → AreSome (prior g).blocked_by (ways_of way g) list.sets list.more) }
+fn ways(alloc: Global, code: &AnyCode, map: &OsdMap, view: &View) -> Result<Ways, AllocError>
+    ensures { IfOk result (λ ways. (g : GroupLog) → g.history.code ≡ code.now → IsMapOf (incs g) map.now → view.now ≡ view_of g
+        → AreWaysOf g ways) }
 {
     if view.blocked_by.is_empty() {
         return Ok(no_ways(alloc));
     }
     let past = view.intervals.as_slice();
     let among = view.blocked_by.as_slice();
-    smallest(alloc, code, map, view.les, past, way, among)
+    smallest(alloc, code, map, view.les, past, among)
 }
 
 /// No sets of devices.
 pub(crate) fn no_ways(alloc: Global) -> Ways
-    ensures sets { result.sets ≡ [] }
-    ensures more { result.more ≡ false }
+    ensures { result ≡ no_ways }
 {
-    Ways {
+    Ways::Listed(Sets {
         sets: Seq::new(alloc),
         more: false,
-    }
+    })
 }

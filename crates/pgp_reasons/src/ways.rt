@@ -1,19 +1,29 @@
 use pgp_ids::{OsdId, Seq};
 
-/// How a device that is down stops being waited for.
-#[derive(Clone, Copy)]
-pub enum Way {
-    /// It boots.
-    Start,
-    /// It is declared lost, and what it held with it.
-    GiveUp,
+/// The smallest sets of devices each of which would be enough.
+#[derive(Drop)]
+pub enum Ways {
+    /// Any so many of some devices. There is more than one such set.
+    Any(AnyOf),
+    /// These sets.
+    Listed(Sets),
 }
 
-/// Sets of devices each of which would be enough.
+/// Any so many of some devices.
 #[derive(Drop)]
-pub struct Ways {
-    /// The smaller sets first; each in ascending order.
+pub struct AnyOf {
+    /// How many of them, 1 at least.
+    pub least: usize,
+    /// More than that many devices, in ascending order.
+    pub osds: Seq<OsdId>,
+}
+
+/// Sets of devices.
+#[derive(Drop)]
+pub struct Sets {
+    /// Each in ascending order. Where there are no others, the smaller sets stand first.
     pub sets: Seq<Seq<OsdId>>,
-    /// Whether there may be others: 16 are listed and there are more, or there were more than nine devices to choose from.
+    /// Whether there may be others: there are more than 16, or there were more than nine devices to choose from. Those that are
+    /// listed have no device in common then, except for devices that each way needs.
     pub more: bool,
 }

@@ -48,8 +48,9 @@ fn names_in_order(text: &[u8], words: &[&str]) -> bool {
     true
 }
 
-/// The words that the program is given, and how it ends: its status, what it wrote, and what it said on standard error.
-pub struct Row(pub &'static [&'static str], pub u8, pub Text, pub Text);
+/// The words behind the program's name, with a blank between two, and how it ends: its status, what it wrote, and what it said on
+/// standard error.
+pub struct Row(pub &'static str, pub u8, pub Text, pub Text);
 
 /// Whether the program ends so that is given this script.
 fn ends_so<T: Threads + Wait + Sync>(
@@ -71,7 +72,7 @@ pub fn end_so<T: Threads + Wait + Sync + Abort + AllocGlobal>(
 ) -> Result<(), Fail> {
     for row in rows {
         let words = row.0;
-        assert!(rt; ends_so(rt, rt.alloc(), script, row)?, "{words:?}");
+        assert!(rt; ends_so(rt, rt.alloc(), script, row)?, "{words}");
     }
     Ok(())
 }
@@ -80,12 +81,13 @@ pub fn end_so<T: Threads + Wait + Sync + Abort + AllocGlobal>(
 fn run_with<R: Read + Drop, W: Write + Drop, T: Threads + Wait + Sync>(
     rt: &T,
     alloc: Global,
-    words: &[&str],
+    words: &str,
     reader: R,
     writer: W,
 ) -> Result<(u8, W, Vec<u8>), Fail> {
     let mut given = Vec::new(alloc);
-    for word in words {
+    given.push(String::from_str(alloc, "pgpeer")?)?;
+    for word in words.split_whitespace() {
         given.push(String::from_str(alloc, word)?)?;
     }
     let mut out = WatchedStream::new(writer);
@@ -120,18 +122,27 @@ fn is_told(status: u8, errors: &[u8], fault: &[u8]) -> bool {
     }
 }
 
+/// What is told of a read of the lines that fails after as many calls: each one before gave a piece.
+static FAILED_READS: [&[u8]; 4] = [
+    b"pgpeer: read fault\npgpeer: a read failed in line 1\n",
+    b"pgpeer: read fault\npgpeer: a read failed in line 1\n",
+    b"pgpeer: read fault\npgpeer: a read failed in line 3\n",
+    b"pgpeer: read fault\npgpeer: a read failed in line 3\n",
+];
+
 /// Whether a run over the lines ends as it should whose reader fails after this many calls, of which it makes four.
 fn reads_so<T: Threads + Wait + Sync>(
     rt: &T,
     alloc: Global,
-    words: &[&str],
+    words: &str,
     calls_left: usize,
 ) -> Result<bool, Fail> {
     let reader = FailingStream::new(LINES, PIECE, calls_left);
     let (status, out, errors) = run_with(rt, alloc, words, reader, Vec::new(alloc))?;
     let out = out.as_slice();
+    let fault = FAILED_READS.get(calls_left).copied().unwrap_or(b"");
     Ok(
-        is_told(status, errors.as_slice(), b"pgpeer: read fault\n")
+        is_told(status, errors.as_slice(), fault)
             && (status == DONE) == (calls_left >= 4)
             && ANSWERS.starts_with(out)
             && (out == ANSWERS) == (status == DONE),
@@ -142,7 +153,7 @@ fn reads_so<T: Threads + Wait + Sync>(
 fn writes_so<T: Threads + Wait + Sync>(
     rt: &T,
     alloc: Global,
-    words: &[&str],
+    words: &str,
     calls_left: usize,
 ) -> Result<Option<bool>, Fail> {
     let writer = FailingStream::new(Vec::new(alloc), PIECE, calls_left);
@@ -156,21 +167,18 @@ fn writes_so<T: Threads + Wait + Sync>(
 }
 
 /// A run on one thread, and one over an engine.
-static RUNS: [&[&str]; 2] = [
-    &["pgpeer", "run"],
-    &["pgpeer", "run", "--shards", "3", "--workers", "2"],
-];
+static RUNS: [&str; 2] = ["run", "run --shards 3 --workers 2"];
 
-const EXPLAIN: &[&str] = &["pgpeer", "explain", "1.A"];
+const EXPLAIN: &str = "explain 1.A";
 
-const HELP: &[&str] = &["pgpeer", "--help"];
+const HELP: &str = "--help";
 
 #[test]
 fn each_failed_read_is_named(rt: HostRuntime) -> Result<(), Fail> {
     for words in &RUNS {
         for calls_left in 0..6 {
             let is_so = reads_so(&rt, rt.alloc(), words, calls_left)?;
-            assert!(rt; is_so, "{words:?}, read {calls_left}");
+            assert!(rt; is_so, "{words}, read {calls_left}");
         }
     }
     assert!(rt; reads_so(&rt, rt.alloc(), EXPLAIN, 0)?, "an explanation");
@@ -186,10 +194,10 @@ fn each_failed_write_is_named(rt: HostRuntime) -> Result<(), Fail> {
             done = writes_so(&rt, rt.alloc(), words, calls_left)?;
             assert!(rt;
                 done.is_some() && before <= done,
-                "{words:?}, write {calls_left}"
+                "{words}, write {calls_left}"
             );
         }
-        assert!(rt; done == Some(true), "{words:?}");
+        assert!(rt; done == Some(true), "{words}");
     }
     let done = writes_so(&rt, rt.alloc(), HELP, 0)?;
     assert!(rt; done == Some(false), "help");

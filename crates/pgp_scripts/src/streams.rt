@@ -14,9 +14,7 @@ pub struct ScriptReader<'a> {
 impl Source for ScriptReader<'_> {
     ghost use Rattle.std.specs.Prelude.{Some, false};
 
-    ghost remaining = { λ given. Some given.left.now };
-
-    ghost failed = { λ _. false };
+    ghost state = { λ given. record { remaining = Some given.left.now; failed = false } };
 
     fn read(&mut self, buf: &mut [u8]) -> io::Result<usize> {
         let count = buf.len().min(self.left.len());
@@ -50,12 +48,8 @@ impl AnswerWriter {
 impl Sink for AnswerWriter {
     ghost use Rattle.std.specs.Prelude.{Some, true};
 
-    ghost contents = { λ taken. Some taken.bytes.items };
-
-    ghost failed = { λ taken. taken.failed };
-
     // What it took lies with its reader.
-    ghost passed_on = { λ _. true };
+    ghost state = { λ taken. record { contents = Some taken.bytes.items; failed = taken.failed; passed_on = true } };
 
     fn write(&mut self, buf: &[u8]) -> io::Result<usize> {
         match self.bytes.extend_from_slice(buf) {

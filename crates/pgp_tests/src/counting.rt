@@ -45,15 +45,6 @@ impl QuestionCounts {
         }
         counts
     }
-
-    /// How many questions were counted since it was asked last.
-    pub fn total(&self) -> u64 {
-        let mut total = 0u64;
-        for count in self.counts() {
-            total = total.saturating_add(count);
-        }
-        total
-    }
 }
 
 /// Answers as this code does, and counts each question for its interval.

@@ -1,5 +1,5 @@
 //! Hashes against values from outside: of the published C code, compiled and run apart from this project, and of the tools
-//! of Ceph 16.2.15 (pacific), as `tools/compare_with_ceph.py` asks them.
+//! of Ceph 16.2.15 (pacific), as `dev/compare_with_ceph.py` asks them.
 
 use pgp_hash::{Triple, hash2, hash3, hash4, mask_of, mix, name_hash, stable_mod};
 

@@ -1,11 +1,13 @@
 //! About which past intervals an index of a prior set asks the code, and how often about each, as a device changes and as
 //! intervals may have gone read-write after all.
 
-use super::counting::{Index, QuestionCounts};
-use super::plain_group::{Table, Turn};
-use super::prior_index::begun;
+use super::counting::{CountingCode, Index, QuestionCounts};
 use super::prior_sets::{DOWN, GONE, LOST, UP, prior_text};
+use super::statuses::{Table, Turn};
+use pgp_code::Erasure;
 use pgp_fixtures::{NO_OSD, lying_on, osd, two_epochs};
+use pgp_ids::Epoch;
+use pgp_prior::PriorIndex;
 use pgp_sets::Status;
 use std::alloc::{AllocError, Global};
 use std::test::Fail;
@@ -118,6 +120,15 @@ static SCENES: [Scene; 3] = [
         ],
     },
 ];
+
+/// An index of a group on these devices, where `k` slots are enough, whose questions are counted.
+fn begun<'a>(alloc: Global, k: u8, asked: &'a QuestionCounts, current: &[u16; 3]) -> Index<'a> {
+    let code = CountingCode {
+        code: Erasure::with_shards(k),
+        asked,
+    };
+    PriorIndex::begin(alloc, code, lying_on(current, current), Epoch::new(0))
+}
 
 /// The index of the past intervals.
 fn index_of<'a>(

@@ -5,15 +5,11 @@
 #![tactic(auto)]
 
 #[cfg(test)]
-mod best_stream;
-#[cfg(test)]
 mod choices;
 #[cfg(test)]
-mod cleans;
-#[cfg(test)]
-mod codes;
-#[cfg(test)]
 mod counting;
+#[cfg(test)]
+mod fault_places;
 #[cfg(test)]
 mod groups;
 #[cfg(test)]
@@ -23,30 +19,18 @@ mod infos;
 #[cfg(test)]
 mod judged_intervals;
 #[cfg(test)]
-mod log_stream;
-#[cfg(test)]
-mod map_readers;
-#[cfg(test)]
 mod marks;
 #[cfg(test)]
 mod missing;
 #[cfg(test)]
 mod peering;
 #[cfg(test)]
-mod plain_group;
-#[cfg(test)]
-mod plain_history;
-#[cfg(test)]
-mod prior_index;
-#[cfg(test)]
 mod prior_sets;
 #[cfg(test)]
-mod straw2;
+mod statuses;
 #[cfg(test)]
-mod texts;
+mod straw2;
 #[cfg(test)]
 mod transcripts;
 #[cfg(test)]
 mod trees;
-#[cfg(test)]
-mod worlds;

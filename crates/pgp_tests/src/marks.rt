@@ -4,7 +4,8 @@ ghost use Rattle.std.specs.Prelude.{OnOk};
 ghost use Rattle.pgp_log.specs.Judge.{IsJudgeOf};
 
 use pgp_fixtures::{TO_SERVE, TWO_GROUPS, entry};
-use pgp_log::{Judge, ShardState};
+use pgp_log::Judge;
+use pgp_shard::ShardState;
 use std::alloc::Global;
 use std::process::Abort;
 use std::sync::Arc;

@@ -7,7 +7,7 @@ use std::alloc::{AllocError, Global};
 use std::test::Fail;
 
 /// A copy whose log goes from after the first version to the second.
-pub fn info(log_tail: Version, last_update: Version, complete: bool) -> Info {
+fn info(log_tail: Version, last_update: Version, complete: bool) -> Info {
     Info {
         stamp: Epoch::new(2),
         les: Epoch::new(1),
@@ -19,7 +19,7 @@ pub fn info(log_tail: Version, last_update: Version, complete: bool) -> Info {
 }
 
 /// Adds an entry of this object.
-pub fn add(
+fn add(
     alloc: Global,
     log: &mut MemberLog,
     version: Version,
@@ -36,7 +36,7 @@ pub fn add(
 }
 
 /// The state of the peer by this log in words, or that the log isn't whole.
-pub fn judged(alloc: Global, log: &MemberLog, peer: &Info) -> Result<String, AllocError> {
+fn judged(alloc: Global, log: &MemberLog, peer: &Info) -> Result<String, AllocError> {
     if !log.whole() {
         return String::from_str(alloc, "not whole");
     }

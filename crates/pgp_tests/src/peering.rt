@@ -19,14 +19,14 @@ pub fn grow(alloc: Global, map: &mut OsdMap, line: &str) -> Result<(), Fail> {
     take(map, &inc)
 }
 
-pub fn take(map: &mut OsdMap, inc: &Incremental) -> Result<(), Fail> {
+fn take(map: &mut OsdMap, inc: &Incremental) -> Result<(), Fail> {
     map.check(inc)?;
     map.apply(inc)?;
     Ok(())
 }
 
 /// Where the group lies by this map, and what that says of its primary.
-pub fn state_of(map: &OsdMap) -> Option<EpochState> {
+fn state_of(map: &OsdMap) -> Option<EpochState> {
     let pg = group();
     // Not `?`, of which the toolchain has no proof at a type that holds the parts of a grouped pool.
     let Some(pool) = map.pool(pg.pool) else {
@@ -157,10 +157,10 @@ static INTERVALS: [(&[&str], &str); 7] = [
 ];
 
 /// Two of its three shards went down, and it lies elsewhere.
-pub const MOVED: &str = r#"{"op":"inc","epoch":3,"down":[1,2],"temp":[[1,0,[0,3,4]]]}"#;
+const MOVED: &str = r#"{"op":"inc","epoch":3,"down":[1,2],"temp":[[1,0,[0,3,4]]]}"#;
 
 /// Device 1 is given up for lost.
-pub const LOST_1: &str = r#"{"op":"inc","epoch":4,"lost":[[1,2]]}"#;
+const LOST_1: &str = r#"{"op":"inc","epoch":4,"lost":[[1,2]]}"#;
 
 /// The same, but as of an epoch before the group may have gone read-write.
 const LOST_BEFORE: &str = r#"{"op":"inc","epoch":4,"lost":[[1,1]]}"#;

@@ -1,6 +1,6 @@
 //! Prior sets by statuses that a table tells.
 
-use super::plain_group::Table;
+use super::statuses::Table;
 use pgp_code::AnyCode;
 use pgp_fixtures::{NO_OSD, lying_on, two_epochs};
 use pgp_ids::{Epoch, Member, OsdId, Past, PoolKind};

@@ -5,7 +5,7 @@ ghost use Rattle.std.specs.Prelude.{◌≡◌, ◌<◌, length, OnOk};
 
 use pgp_fixtures::{entry, group, text_of};
 use pgp_ids::View;
-use pgp_log::World;
+use pgp_shard::World;
 use pgp_text::Reply;
 use std::alloc::{AllocError, Global};
 use std::process::Abort;
@@ -15,7 +15,7 @@ use std::test::Fail;
 pub struct Script(pub &'static str, pub &'static [&'static str]);
 
 /// Whether the world takes the entry that the line is.
-pub fn takes(alloc: Global, world: &mut World, line: &str) -> bool
+fn takes(alloc: Global, world: &mut World, line: &str) -> bool
     ensures { length world.new.read ≡ length world.old.read }
 {
     match entry(alloc, line) {
@@ -38,7 +38,7 @@ fn read_all(world: &mut World, shards: usize) -> Result<(), AllocError>
 }
 
 /// What the world knows of the group once each shard has read all that there is.
-pub fn view_of(world: &mut World, shards: usize) -> Result<View, Fail>
+fn view_of(world: &mut World, shards: usize) -> Result<View, Fail>
     requires { length world.old.read ≡ shards }
     ensures { length world.new.read ≡ shards }
 {

@@ -1,72 +1,17 @@
-//! Trees with as many buckets as a tree may have, and placements that Ceph's own tool makes too.
-
-ghost use Rattle.std.specs.Prelude.{◌≤ℤ◌, ◌<ℤ◌, pos, negsuc};
+//! Placements that Ceph's own tool makes too.
 
 use super::peering::grow;
-use pgp_crush::{Rule, Tree, TreeFault, place};
+use pgp_crush::{Rule, place};
 use pgp_fixtures::{NO_OSD, places};
-use pgp_ids::{BucketAlg, BucketSpec, Seq};
 use pgp_map::OsdMap;
-use std::alloc::{AllocError, Global};
 use std::test::Fail;
-
-/// A uniform bucket.
-fn bucket(alloc: Global, id: i32, kind: u8, items: &[i32]) -> Result<BucketSpec, AllocError>
-    requires low { negsuc 65535 ≤ℤ id }
-    requires negative { id <ℤ pos 0 }
-{
-    Ok(BucketSpec {
-        id,
-        kind,
-        alg: BucketAlg::Uniform,
-        items: Seq::from_vec(items.to_vec(alloc)?),
-        weights: Seq::new(alloc),
-    })
-}
-
-/// The ids of the buckets that the bucket of this number holds, of this many buckets. The id of number 0 is -1, that of 1 is -2.
-/// The root, of number 0, holds the first four, and these hold the others.
-fn held(alloc: Global, holding: u16, count: u16) -> Result<Vec<i32>, AllocError> {
-    let mut items = Vec::new(alloc);
-    for number in 1..count {
-        let holder = if number <= 4 { 0 } else { 1 + number % 4 };
-        if holder == holding {
-            items.push(-1 - i32::from(number))?;
-        }
-    }
-    Ok(items)
-}
-
-/// This many buckets in three levels.
-fn crowd(alloc: Global, count: u16) -> Result<Vec<BucketSpec>, AllocError> {
-    let mut buckets = Vec::new(alloc);
-    for number in 0..count {
-        let items = held(alloc, number, count)?;
-        let kind = match number {
-            0 => 3,
-            1..=4 => 2,
-            _ => 1,
-        };
-        buckets.push(bucket(alloc, -1 - i32::from(number), kind, &items)?)?;
-    }
-    Ok(buckets)
-}
-
-#[test]
-fn a_tree_has_at_most_1024_buckets(rt: HostRuntime) -> Result<(), Fail> {
-    let most = Tree::check(rt.alloc(), crowd(rt.alloc(), 1024)?);
-    assert!(rt; most.is_ok());
-    let more = Tree::check(rt.alloc(), crowd(rt.alloc(), 1025)?);
-    assert!(rt; more.err() == Some(TreeFault::TooMany));
-    Ok(())
-}
 
 /// A tree of four levels, with buckets of both kinds, over devices 0 to 6.
 const FOUR_LEVELS: &str =
     r#"{"op":"inc","epoch":1,"crush":[{"id":-2,"type":2,"alg":"uniform","items":[0,1,2]},{"id":-3,"type":2,"alg":"list","items":[3,4],"weights":[65536,32768]},{"id":-4,"type":2,"alg":"uniform","items":[5,6]},{"id":-5,"type":3,"alg":"list","items":[-2,-3],"weights":[131072,65536]},{"id":-1,"type":4,"alg":"list","items":[-5,-4],"weights":[196608,98304]}]}"#;
 
 /// Whether a rule keeps places, the type of its items, an input, and the placement that `crushtool --test` of Ceph 16.2.15
-/// (pacific) makes on this tree, as `tools/compare_with_ceph.py` asks it.
+/// (pacific) makes on this tree, as `dev/compare_with_ceph.py` asks it.
 static PLACEMENTS: [(bool, u8, u32, &[u16]); 16] = [
     (false, 0, 0, &[5, 2, 0]),
     (false, 0, 2, &[6, 5, 0]),

@@ -1,7 +1,3 @@
-pub use Rattle.pgp_lines.specs.Command
-pub use Rattle.pgp_lines.specs.LineFault
-pub use Rattle.pgp_lines.specs.Op
-pub mod Commands
 pub mod Json
 pub mod Answered
 pub mod LineRefusal
@@ -11,5 +7,4 @@ pub mod Reply
 pub mod Written
 pub mod Versions
 pub mod Parts
-pub mod WorkedLines
 pub mod WorkedReplies

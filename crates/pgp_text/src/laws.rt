@@ -1,8 +1,4 @@
-//! Worked lines and answers, which the definitions compute, and how the faults of lines are written.
+//! Worked answers, which the definitions compute, and how the faults of lines are written.
 
 pub mod faults;
-pub mod formats;
-pub mod grouped;
-pub mod incrementals;
-pub mod lines;
 pub mod replies;

@@ -1,4 +1,4 @@
-//! Tests of the feed and of the engine, of what their contracts leave open, and of look-ups beside a thread that submits.
+//! Tests of the feed and of the engine, of what their contracts leave open.
 //!
 //! They start threads and wait, so they have a crate of their own. Nothing stands on it.
 #![tactic(auto)]
@@ -11,7 +11,5 @@ mod engine;
 mod feed;
 #[cfg(test)]
 mod lines;
-#[cfg(test)]
-mod look_ups;
 #[cfg(test)]
 mod ticket;

@@ -11,7 +11,8 @@ use pgp_engine::{
 };
 use pgp_feed::Receipt;
 use pgp_ids::{Entry, LocateRefusal, ObjectName, PgId, PoolId, View};
-use pgp_text::{Command, EntryOp, LineRefusal, Reply};
+use pgp_lines::Command;
+use pgp_text::{EntryOp, LineRefusal, Reply};
 use std::alloc::Global;
 use std::marker::Model;
 use std::sync::Wait;

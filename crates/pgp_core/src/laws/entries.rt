@@ -3,7 +3,7 @@
 ghost use Rattle.std.specs.Prelude.{◌≡◌, ℕ, List, [], Bool, None, map, true};
 ghost use Rattle.pgp_ids.specs.declared.entry.Entry.{Entry};
 ghost use Rattle.pgp_log.specs.Log.{is_legal};
-ghost use Rattle.pgp_text.specs.Commands.{Format};
+ghost use Rattle.pgp_lines.specs.declared.command.format.Format.{Format};
 ghost use Rattle.pgp_core.specs.Added.{log_of_lines};
 ghost use Rattle.pgp_core.specs.Answerer.{MayAnswerBy};
 ghost use Rattle.pgp_core.specs.Script.{logs};

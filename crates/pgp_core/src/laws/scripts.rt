@@ -3,7 +3,8 @@
 
 ghost use Rattle.std.specs.Prelude.{◌≡◌, List, ℕ, [], ◌∷◌, ◌++◌, Option, Some, None, codes, length, true};
 ghost use Rattle.pgp_ids.specs.declared.entry.Entry.{Entry as LogEntry};
-ghost use Rattle.pgp_text.specs.Commands.{Format, Two};
+ghost use Rattle.pgp_lines.specs.declared.command.format.Format.{Format};
+ghost use Rattle.pgp_lines.specs.declared.command.format.Format.TheVariants.{Two};
 ghost use Rattle.pgp_core.specs.declared.want.Want.{Want};
 ghost use Rattle.pgp_core.specs.declared.want.Want.TheVariants.{Line, Entry};
 ghost use Rattle.pgp_core.specs.Script.{Answers, script_text, answer, answers, log_past, logs};

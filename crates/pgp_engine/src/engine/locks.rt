@@ -10,7 +10,7 @@ use crate::naming::Naming;
 use crate::shard::Shard;
 use pgp_feed::Receipt;
 use pgp_ids::PgId;
-use pgp_log::shard_of;
+use pgp_shard::shard_of;
 use std::sync::{Mutex, MutexGuard, Wait};
 
 /// A turn of the lock of an intake whose log holds the front. The log holds every front that it gave a receipt of, so the

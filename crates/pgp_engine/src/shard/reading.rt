@@ -11,7 +11,7 @@ use crate::fault::AskFault;
 use crate::follower::Follower;
 use pgp_feed::{Receipt, Tap};
 use pgp_ids::Entry;
-use pgp_log::ShardState;
+use pgp_shard::ShardState;
 use std::alloc::AllocError;
 use std::sync::Arc;
 

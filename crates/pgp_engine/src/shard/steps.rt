@@ -5,7 +5,7 @@ ghost use Rattle.pgp_group.specs.Entries.{incs_of};
 ghost use Rattle.pgp_group.specs.View.{scratch};
 ghost use Rattle.pgp_log.specs.Fits.{is_closed};
 ghost use Rattle.pgp_log.specs.Log.{is_legal, HasInc, IsFrontOf};
-ghost use Rattle.pgp_log.specs.Shard.{AreUnmarked};
+ghost use Rattle.pgp_shard.specs.Shard.{AreUnmarked};
 ghost use Rattle.pgp_feed.specs.Receipts.{entries_of, feed_of};
 ghost use Rattle.pgp_feed.specs.Taps.{last_of};
 ghost use Rattle.pgp_engine.specs.Asks.{IsAnswer, MayFailToAnswer};
@@ -22,7 +22,7 @@ use crate::fault::AskFault;
 use crate::naming::Naming;
 use pgp_feed::{Receipt, Tap};
 use pgp_ids::{AskRefusal, PgId};
-use pgp_log::ShardState;
+use pgp_shard::ShardState;
 use std::alloc::Global;
 use std::marker::PhantomData;
 

@@ -45,7 +45,7 @@ pub(super) fn read_entries(
     let log = read_log(alloc, value)?;
     let pg = read_required(alloc, value, "pg")?;
     let stamp = read_required(alloc, value, "stamp")?;
-    judge_format(alloc, format)?;
+    judge_format(alloc, value, format)?;
     Ok(Report {
         pg,
         member,

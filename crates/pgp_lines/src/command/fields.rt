@@ -14,7 +14,7 @@ use std::alloc::{AllocError, Global};
 pub(super) fn read_field<T: Shape + Drop>(
     alloc: Global,
     value: &Value<'_, '_>,
-    key: &str,
+    key: &'static str,
 ) -> Result<Option<T>, AllocError>
     ensures { IfOk result (λ found. found ≡ field key.now T.shape (view value.now)) }
 {
@@ -28,7 +28,7 @@ pub(super) fn read_field<T: Shape + Drop>(
 pub(super) fn read_required<T: Shape + Drop>(
     alloc: Global,
     value: &Value<'_, '_>,
-    key: &str,
+    key: &'static str,
 ) -> Result<T, TextFault>
     ensures ok { IfOk result (λ found. required key.now T.shape (view value.now) ≡ Ok found) }
     ensures err { IfErr result
@@ -45,7 +45,7 @@ pub(super) fn read_required<T: Shape + Drop>(
 pub(super) fn read_optional<T: Shape + Drop>(
     alloc: Global,
     value: &Value<'_, '_>,
-    key: &str,
+    key: &'static str,
     place: &mut T,
 ) -> Result<(), TextFault>
     ensures ok { OnOk result

@@ -7,6 +7,7 @@ ghost use Rattle.std.specs.List.{list_all};
 
 use super::faults::bad_field_fault;
 use super::numbers::read_number;
+use super::trail::Wanted;
 use super::value::Value;
 use pgp_ids::{BucketAlg, BucketSpec, PoolKind, PoolSpec, Seq, TextFault};
 use std::alloc::Global;
@@ -45,24 +46,37 @@ pub(super) fn read_in(last: Format, format: Option<Format>) -> Format
 }
 
 /// The version that a line names, or `BadField` of `v`.
-pub(super) fn judge_format(alloc: Global, format: Option<Format>) -> Result<Format, TextFault>
+pub(super) fn judge_format(
+    alloc: Global,
+    value: &Value<'_, '_>,
+    format: Option<Format>,
+) -> Result<Format, TextFault>
     ensures ok { IfOk result (λ known. judged format ≡ Ok known) }
     ensures err { IfErr result (λ fault. IfSome (line_fault_of fault) (λ f. judged format ≡ Err f)) }
 {
     match format {
         Some(format) => Ok(format),
-        None => Err(bad_field_fault(alloc, "v")),
+        None => {
+            value.look_at("v", Wanted::Words("a version in which lines are read"));
+            Err(bad_field_fault(alloc, "v"))
+        }
     }
 }
 
 /// `BadField` of a key whose value the version of its line hasn't.
-pub(super) fn judge_at(alloc: Global, key: &str, has: bool) -> Result<(), TextFault>
+pub(super) fn judge_at(
+    alloc: Global,
+    value: &Value<'_, '_>,
+    key: &'static str,
+    has: bool,
+) -> Result<(), TextFault>
     ensures ok { OnOk result (judged_at key.now has ≡ Ok tt) }
     ensures err { IfErr result (λ fault. IfSome (line_fault_of fault) (λ f. judged_at key.now has ≡ Err f)) }
 {
     if has {
         Ok(())
     } else {
+        value.look_at(key, Wanted::Words("what a line of its version can have"));
         Err(bad_field_fault(alloc, key))
     }
 }

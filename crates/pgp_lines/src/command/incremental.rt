@@ -77,7 +77,7 @@ fn put_down(
         (λ fault. IfSome (line_fault_of fault) (λ f. with_down format inc.old (view value.now) ≡ Err f)) }
 {
     read_optional(alloc, value, "crush", &mut inc.crush)?;
-    judge_at(alloc, "crush", format.has_tree(&inc.crush))?;
+    judge_at(alloc, value, "crush", format.has_tree(&inc.crush))?;
     read_optional(alloc, value, "down", &mut inc.down)?;
     inc.epoch = read_required(alloc, value, "epoch")?;
     read_optional(alloc, value, "gone", &mut inc.gone)?;
@@ -97,7 +97,12 @@ fn put_pools(
         (λ fault. IfSome (line_fault_of fault) (λ f. with_pools format inc.old (view value.now) ≡ Err f)) }
 {
     read_optional(alloc, value, "pools", &mut inc.pools)?;
-    judge_at(alloc, "pools", format.has_pools(inc.pools.as_slice()))?;
+    judge_at(
+        alloc,
+        value,
+        "pools",
+        format.has_pools(inc.pools.as_slice()),
+    )?;
     read_optional(alloc, value, "sizes", &mut inc.sizes)?;
     read_optional(alloc, value, "temp", &mut inc.temp)?;
     Ok(())
@@ -116,7 +121,7 @@ fn put_up(
 {
     read_optional(alloc, value, "up", &mut inc.up)?;
     read_optional(alloc, value, "up_thru", &mut inc.up_thru)?;
-    judge_format(alloc, format)?;
+    judge_format(alloc, value, format)?;
     read_optional(alloc, value, "weight", &mut inc.weight)?;
     Ok(())
 }

@@ -30,7 +30,7 @@ pub(super) fn read_info(
     let log_tail = read_required(alloc, value, "log_tail")?;
     let pg = read_required(alloc, value, "pg")?;
     let stamp = read_required(alloc, value, "stamp")?;
-    judge_format(alloc, format)?;
+    judge_format(alloc, value, format)?;
     Ok(Info {
         pg,
         member,

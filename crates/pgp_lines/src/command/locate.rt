@@ -47,6 +47,6 @@ pub(super) fn read_locate(
 {
     let name = read_required(alloc, value, "name")?;
     let pool = read_required(alloc, value, "pool")?;
-    judge_format(alloc, format)?;
+    judge_format(alloc, value, format)?;
     Ok((pool, name))
 }

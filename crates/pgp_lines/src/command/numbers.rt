@@ -4,6 +4,7 @@ ghost use Rattle.pgp_lines.specs.Value.{view};
 ghost use Rattle.pgp_lines.specs.Shapes.{number_in, integer_in, field};
 ghost use Rattle.pgp_lines.specs.Ids.{osd_in, place_in, pool_id_in, byte_in, word_in, group_in};
 
+use super::trail::Wanted;
 use super::value::Value;
 use pgp_ids::{Epoch, OsdId, PgId, Place, PoolId};
 
@@ -15,12 +16,18 @@ pub(super) fn read_number(value: &Value<'_, '_>, low: u64, high: u64) -> Option<
     ensures value { result ≡ number_in low high (view value.now) }
     ensures within { IfSome result (λ n. n ≤ high) }
 {
+    value.look(Wanted::Number(low, high));
     let n = value.as_u64()?;
     (low <= n && n <= high).then_some(n)
 }
 
 /// The whole number from `low` to `high` at a key of an object.
-pub(super) fn number_at(value: &Value<'_, '_>, key: &str, low: u64, high: u64) -> Option<u64>
+pub(super) fn number_at(
+    value: &Value<'_, '_>,
+    key: &'static str,
+    low: u64,
+    high: u64,
+) -> Option<u64>
     ensures value { result ≡ field key.now (number_in low high) (view value.now) }
     ensures within { IfSome result (λ n. n ≤ high) }
 {
@@ -28,7 +35,7 @@ pub(super) fn number_at(value: &Value<'_, '_>, key: &str, low: u64, high: u64) -
 }
 
 /// The number of one byte, 0 to 255, at a key of an object.
-pub(super) fn byte_at(value: &Value<'_, '_>, key: &str) -> Option<u8>
+pub(super) fn byte_at(value: &Value<'_, '_>, key: &'static str) -> Option<u8>
     ensures { result ≡ field key.now byte_in (view value.now) }
 {
     read_byte(&value.get(key)?)
@@ -40,6 +47,7 @@ pub(super) fn read_integer(value: &Value<'_, '_>, low: i64, high: i64) -> Option
     ensures above { IfSome result (λ n. low ≤ℤ n) }
     ensures below { IfSome result (λ n. n ≤ℤ high) }
 {
+    value.look(Wanted::Integer(low, high));
     let n = value.as_i64()?;
     (low <= n && n <= high).then_some(n)
 }

@@ -3,6 +3,7 @@ ghost use Rattle.std.specs.Prelude.{◌≡◌, map, option_map};
 ghost use Rattle.pgp_lines.specs.Shapes.{least_with, is_key, unknown_key_in, has_only};
 ghost use Rattle.pgp_lines.specs.Value.{view};
 
+use super::trail::Wanted;
 use super::value::Value;
 
 /// The least key, in byte order, of an object that is none of `keys`.
@@ -37,8 +38,9 @@ fn is_one_of(key: &str, keys: &[&str]) -> bool
 }
 
 /// Whether an object has no keys but these.
-pub(super) fn has_only(value: &Value<'_, '_>, keys: &[&str]) -> bool
+pub(super) fn has_only(value: &Value<'_, '_>, keys: &'static [&'static str]) -> bool
     ensures { result ≡ has_only (map (λ k. k.now) keys.now) (view value.now) }
 {
+    value.look(Wanted::Keys(keys));
     unknown_key(value, keys).is_none()
 }

@@ -107,11 +107,11 @@ impl Op {
         match self {
             Op::Ask => {
                 let pg = read_required(alloc, value, "pg")?;
-                judge_format(alloc, format)?;
+                judge_format(alloc, value, format)?;
                 Ok(Command::Ask(pg))
             }
             Op::Close => {
-                judge_format(alloc, format)?;
+                judge_format(alloc, value, format)?;
                 Ok(Command::Submit(Entry::Close))
             }
             Op::Entries => {

@@ -13,6 +13,7 @@ use super::format::{Format, judge_format, read_in};
 use super::numbers::{number_at, read_epoch, read_place};
 use super::objects::has_only;
 use super::pools::read_kind;
+use super::trail::Wanted;
 use super::value::Value;
 use pgp_ids::{Epoch, EpochState, Membership, Osds, PoolKind, PrimaryFacts, Seq, TextFault};
 use std::alloc::{AllocError, Global};
@@ -46,7 +47,7 @@ pub(super) fn read_trace(
     let Some(epochs) = found else {
         return Err(bad_field_fault(alloc, "epochs"));
     };
-    judge_format(alloc, format)?;
+    judge_format(alloc, value, format)?;
     Ok(Command::Trace { code, epochs })
 }
 
@@ -57,7 +58,11 @@ fn read_code(value: &Value<'_, '_>, format: Format) -> Option<PoolKind>
 {
     let code = value.get("code")?;
     let kind = read_kind(&code)?;
-    (has_only(&code, code_keys(&kind)) && is_code(&kind) && format.has_kind(&kind)).then_some(kind)
+    if !has_only(&code, code_keys(&kind)) {
+        return None;
+    }
+    code.look(Wanted::Words("what a trace of its version can have"));
+    (is_code(&kind) && format.has_kind(&kind)).then_some(kind)
 }
 
 /// The keys of a code's object, in ascending byte order.
@@ -145,7 +150,7 @@ fn read_facts(value: &Value<'_, '_>) -> Option<PrimaryFacts>
 }
 
 /// The epoch at a key.
-fn epoch_at(value: &Value<'_, '_>, key: &str) -> Option<Epoch>
+fn epoch_at(value: &Value<'_, '_>, key: &'static str) -> Option<Epoch>
     ensures { result ≡ field key.now word_in (view value.now) }
 {
     read_epoch(&value.get(key)?)

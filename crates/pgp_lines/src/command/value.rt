@@ -14,6 +14,7 @@ ghost use Rattle.pgp_lines.specs.Shapes.{items_in};
 ghost use Rattle.pgp_lines.specs.Value.{num_of, json_of, view, items_left, is_readable};
 
 use super::number::Number;
+use super::trail::{Mark, Step, Trail, Wanted};
 use bumpalo::Bump;
 use json::{Element, Members, Node, Tape};
 use std::marker::Model;
@@ -28,6 +29,8 @@ pub(super) type Tokens<'a> = Tape<'a, &'a Bump>;
 #[derive(Drop)]
 pub(super) struct Value<'t, 'a> {
     element: Element<'t, 'a>,
+    /// Where it is, if the line is read for the place of its fault.
+    mark: Option<Mark<'t>>,
 }
 
 impl<'t, 'a> Model for Value<'t, 'a> {
@@ -47,26 +50,52 @@ impl<'t, 'a> Model for Value<'t, 'a> {
 }
 
 impl<'t, 'a> Value<'t, 'a> {
-    /// The value of a whole line.
-    pub(super) fn of(tokens: &'t Tokens<'a>) -> Value<'t, 'a>
+    /// The value of a whole line. Each look into it is kept, where there is a trail for that.
+    pub(super) fn of(tokens: &'t Tokens<'a>, trail: Option<&'t Trail>) -> Value<'t, 'a>
         ensures { result ≡ tokens.now }
     {
+        let mark = match trail {
+            Some(trail) => Some(trail.line()),
+            None => None,
+        };
         Value {
             element: tokens.root(),
+            mark,
+        }
+    }
+
+    /// Says what is looked for here.
+    pub(super) fn look(&self, wanted: Wanted) {
+        if let Some(mark) = self.mark {
+            mark.look(wanted);
+        }
+    }
+
+    /// Says what is looked for at a key.
+    pub(super) fn look_at(&self, key: &'static str, wanted: Wanted) {
+        if let Some(mark) = self.mark {
+            mark.look(wanted);
+            mark.within(Step::Key(key)).look(wanted);
         }
     }
 
     /// The value at a key of an object; of one that stands there twice the last.
-    pub(super) fn get(&self, key: &str) -> Option<Value<'t, 'a>>
+    pub(super) fn get(&self, key: &'static str) -> Option<Value<'t, 'a>>
         ensures { option_map view result ≡ get key.now (view self.now) }
     {
+        self.look_at(key, Wanted::Value);
         let element = self.element.get(key)?;
-        Some(Value { element })
+        let mark = match self.mark {
+            Some(mark) => Some(mark.within(Step::Key(key))),
+            None => None,
+        };
+        Some(Value { element, mark })
     }
 
     pub(super) fn as_str(&self) -> Option<&'a str>
         ensures { option_map (λ s. s.now) result ≡ as_str (view self.now) }
     {
+        self.look(Wanted::Words("a text that it can be"));
         self.element.as_str()
     }
 
@@ -74,8 +103,13 @@ impl<'t, 'a> Value<'t, 'a> {
     pub(super) fn items(&self) -> Option<Items<'t, 'a>>
         ensures { option_map items_left result ≡ items_in (view self.now) }
     {
+        self.look(Wanted::Words("a list"));
         let items = self.element.items()?;
-        Some(Items { items })
+        Some(Items {
+            items,
+            mark: self.mark,
+            taken: 0,
+        })
     }
 
     /// The members of an object, in the line's order.
@@ -89,6 +123,7 @@ impl<'t, 'a> Value<'t, 'a> {
     pub(super) fn as_bool(&self) -> Option<bool>
         ensures { result ≡ as_bool (view self.now) }
     {
+        self.look(Wanted::Words("true or false"));
         self.element.as_bool()
     }
 
@@ -125,6 +160,10 @@ impl<'t, 'a> Value<'t, 'a> {
 #[derive(Drop)]
 pub(super) struct Items<'t, 'a> {
     items: json::Items<'t, 'a>,
+    /// That of the array.
+    mark: Option<Mark<'t>>,
+    /// How many have come.
+    taken: usize,
 }
 
 impl<'t, 'a> Model for Items<'t, 'a> {
@@ -148,8 +187,17 @@ impl<'t, 'a> Items<'t, 'a> {
         ensures more { IfSome result (λ v. items_left self.old ≡ view v ∷ items_left self.new) }
         ensures shorter { OnSome result (length self.new < length self.old) }
     {
+        let mark = self.next_mark();
         let element = self.items.next()?;
-        Some(Value { element })
+        self.taken = self.taken.saturating_add(1);
+        Some(Value { element, mark })
+    }
+
+    /// The mark of the next item. Whether there is one is looked for in the array.
+    fn next_mark(&self) -> Option<Mark<'t>> {
+        let array = self.mark?;
+        array.look(Wanted::Words("a list of the right length"));
+        Some(array.within(Step::Item(self.taken)))
     }
 }
 

@@ -4,7 +4,8 @@ use crate::fakes::{NEVER, giver, taken_by, taker};
 use crate::runs::RunEnd;
 use pgp_core::{Answerer, Bounds, Format, NoReply, ScriptFault, answer_script};
 use pgp_ids::LocateRefusal;
-use pgp_text::{Command, LineRefusal, Reply};
+use pgp_lines::Command;
+use pgp_text::{LineRefusal, Reply};
 use std::alloc::Global;
 
 /// Says where an object lies in a cluster without a pool, and is gone at any other command.

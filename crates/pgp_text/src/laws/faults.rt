@@ -1,5 +1,5 @@
 //! Faults of lines, and how they are written.
-#![tactic(auto, unfolding(crate::specs::WorkedLines::text_computed))]
+#![tactic(auto, unfolding(pgp_lines::specs::WorkedLines::text_computed))]
 
 ghost use Rattle.std.specs.Prelude.{◌≡◌, codes, IfSome};
 ghost use Rattle.pgp_ids.specs.declared.text_fault.TextFault.{TextFault};

@@ -19,7 +19,7 @@ use pgp_compact::laws::a_compacted_log_is_legal;
 use pgp_engine::{Engine, MakeFault, Naming};
 use pgp_feed::{Feed, ReadFault, Tap};
 use pgp_ids::Entry;
-use pgp_log::World;
+use pgp_shard::World;
 use std::alloc::Global;
 use std::marker::Brand;
 use std::process::Abort;

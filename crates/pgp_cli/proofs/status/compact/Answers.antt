@@ -1,6 +1,6 @@
 use Rattle.std.proofs.Common.{◌≡◌, ◌≢◌, ◌⊎◌, Err, inl, inr, refl, ap, ◌∙◌}
-use Rattle.pgp_compact_script.specs.declared.fault.CompactFault.{CompactFault}
-use Rattle.pgp_compact_script.specs.declared.fault.CompactFault.TheVariants.{Script, Write}
+use Rattle.pgp_whole.specs.declared.compact_fault.CompactFault.{CompactFault}
+use Rattle.pgp_whole.specs.declared.compact_fault.CompactFault.TheVariants.{Script, Write}
 use Rattle.pgp_cli.proofs.status.compact.Goals as goal
 
 -- a fault is a failed write, or another one
@@ -15,5 +15,5 @@ returns-in-Err-clause-ended g c =
       | inl write ↦
           let cut = c.compact_script.ensures.write (c.in-Err.is ∙ ap Err write) in
           inr (inr (record { part = inr (inl (c.args.options.format, cut)); failed = cut.failed }))
-      | inr other ↦ inr (inl (ap g.W.Sink.contents (c.in-Err.ensures.quiet (λ same. let write : c.in-Err.why ≡ Write = cc in other write))))
+      | inr other ↦ inr (inl (ap (λ w. (g.W.Sink.state w).contents) (c.in-Err.ensures.quiet (λ same. let write : c.in-Err.why ≡ Write = cc in other write))))
     ])

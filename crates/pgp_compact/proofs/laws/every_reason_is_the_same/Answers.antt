@@ -1,8 +1,9 @@
 use Rattle.pgp_compact.proofs.Common.{AnyCode, Entry, GroupLog, History, List, PgId, Some, ap, compacted, group_history, group_in, group_with, incs_of, map_some, same_Some, subst, sym, ◌++◌, ◌∙◌, ◌≡◌}
 use Rattle.pgp_compact.proofs.LegalLemmas.{legal-sent}
 use Rattle.pgp_compact.proofs.PartLemmas.{incs-gone_on}
-use Rattle.pgp_compact.proofs.ReasonsLemmas.{reasons-same, same-reasons}
+use Rattle.pgp_compact.proofs.ReasonsLemmas.{reasons-same, same-price, same-reasons}
 use Rattle.pgp_compact.proofs.laws.every_reason_is_the_same.Goals as goal
+use Rattle.pgp_reasons.specs.Price.{price}
 use Rattle.pgp_reasons.specs.Reasons.{AreReasons}
 
 -- the group of the whole log, and that of the compacted one, have one history
@@ -30,3 +31,9 @@ returns-clause-told c = λ log more pg whole less reasons legal checked first se
     let g = are-groups log more pg whole less first second in
     let same = reasons-same c.what_does_not_count_never_counts_again.ensures log more pg g.after checked g.there (legal-sent log legal) reasons in
     subst (λ (it : GroupLog). AreReasons it reasons) g.whole_is (same (subst (λ (it : GroupLog). AreReasons it reasons) (sym g.less_is) are))
+
+pub returns-clause-price : goal.returns-clause-price
+returns-clause-price c = λ log more pg whole less starts losses legal checked first second.
+    let g = are-groups log more pg whole less first second in
+    let same = same-price c.what_does_not_count_never_counts_again.ensures log more pg g.after checked g.there (legal-sent log legal) starts losses in
+    ap (price starts losses) (sym g.less_is) ∙ sym same ∙ ap (price starts losses) g.whole_is

@@ -1,6 +1,6 @@
 use Rattle.std.proofs.Common.{rules}
 use Rattle.std.proofs.lemmas.Result.{on_ok_weaker, IfErr-weaker}
-use Rattle.pgp_text.specs.LineFault.{line_fault_of}
+use Rattle.pgp_lines.specs.LineFault.{line_fault_of}
 use Rattle.pgp_core.proofs.LineLemmas.{lacks-of}
 use Rattle.pgp_core.proofs.ReplyLemmas.{puts-command, puts-fault}
 use Rattle.pgp_core.proofs.answer.answer_line.Goals as goal

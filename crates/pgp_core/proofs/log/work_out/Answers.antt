@@ -1,4 +1,4 @@
-use Rattle.pgp_log.proofs.ShardLemmas.{unmarked-now}
+use Rattle.pgp_shard.proofs.ShardLemmas.{unmarked-now}
 use Rattle.pgp_core.proofs.log.work_out.Goals as goal
 
 pub returns-in-Ok-clause-unmarked : goal.returns-in-Ok-clause-unmarked

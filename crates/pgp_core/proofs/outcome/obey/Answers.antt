@@ -1,6 +1,7 @@
 use Rattle.std.proofs.Common.{◌≡◌, ℕ, List, subst, sym}
 use Rattle.pgp_ids.specs.declared.entry.Entry.{Entry}
-use Rattle.pgp_text.specs.Commands.{Command, Locate}
+use Rattle.pgp_lines.specs.declared.command.Command.{Command}
+use Rattle.pgp_lines.specs.declared.command.Command.TheVariants.{Locate}
 use Rattle.pgp_core.specs.Added.{IsOutcomeOf}
 use Rattle.pgp_core.specs.declared.outcome.LineOutcome.{LineOutcome}
 use Rattle.pgp_core.proofs.outcome.obey.Goals as goal

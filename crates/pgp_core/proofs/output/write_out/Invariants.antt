@@ -4,8 +4,8 @@ use Rattle.pgp_core.proofs.output.write_out.Given as goal
 
 abbrev pub invariant-loop-rest : goal.invariant-loop-rest
 invariant-loop-rest g l = record {
-  went : WrittenPart (g.W.Sink.contents l.initial.writer) (g.W.Sink.contents l.writer) l.text l.rest;
-  kept : g.W.Sink.failed l.writer ≡ g.W.Sink.failed l.initial.writer;
+  went : WrittenPart (g.W.Sink.state l.initial.writer).contents (g.W.Sink.state l.writer).contents l.text l.rest;
+  kept : (g.W.Sink.state l.writer).failed ≡ (g.W.Sink.state l.initial.writer).failed;
 }
 
 abbrev pub decreases-loop-rest : goal.decreases-loop-rest

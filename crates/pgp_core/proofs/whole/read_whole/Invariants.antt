@@ -6,8 +6,8 @@ abbrev pub invariant-loop-script : goal.invariant-loop-script
 invariant-loop-script g l = record {
   room : 0 < length l.chunk;
   few : length l.script.items ≤ l.bounds.bytes;
-  bytes : Consumes (g.R.Source.remaining l.initial.reader) (g.R.Source.remaining l.reader) l.script.items;
-  kept : g.R.Source.failed l.reader ≡ g.R.Source.failed l.initial.reader;
+  bytes : Consumes (g.R.Source.state l.initial.reader).remaining (g.R.Source.state l.reader).remaining l.script.items;
+  kept : (g.R.Source.state l.reader).failed ≡ (g.R.Source.state l.initial.reader).failed;
 }
 
 abbrev pub decreases-loop-script : goal.decreases-loop-script

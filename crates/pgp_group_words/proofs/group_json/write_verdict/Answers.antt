@@ -3,4 +3,7 @@ use Rattle.pgp_text.proofs.Tokens.{fields_then}
 use Rattle.pgp_group_words.proofs.group_json.write_verdict.Goals as goal
 
 pub returns-clause-ok : goal.returns-clause-ok
-returns-clause-ok c = on_ok_weaker c.write_field-3.result (λ e. fields_then _ _ _ _ _ (fields_then _ _ _ _ _ c.in_ok-write_field.ensures.ok c.in_ok-write_field-2.ensures.ok) e) (rw c.name.ensures at c.write_field-3.ensures.ok)
+returns-clause-ok c =
+    let verdict = rw c.name.ensures at c.in_ok-write_field-3.ensures.ok in
+    on_ok_weaker c.write_field-4.result (λ e. fields_then _ _ _ _ _ (fields_then _ _ _ _ _ (fields_then _ _ _ _ _ c.in_ok-write_field.ensures.ok c.in_ok-write_field-2.ensures.ok) verdict) e)
+    c.write_field-4.ensures.ok

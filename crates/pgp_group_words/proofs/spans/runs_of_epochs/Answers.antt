@@ -2,20 +2,20 @@ use Rattle.std.proofs.Common.{◌≡◌, ◌+◌, ◌<◌, ℕ, List, [], length
 use Rattle.std.proofs.lemmas.List.{map_more}
 use Rattle.std.proofs.lemmas.List.Sums.{fold_push}
 use Rattle.pgp_reasons.specs.declared.blocking.Blocking.{Blocking}
-use Rattle.pgp_group_words.specs.Spans.{epochs_of, then_run}
+use Rattle.pgp_group_words.specs.Spans.{epochs_blocked, then_run}
 use Rattle.pgp_group_words.specs.declared.offset.EpochOffset.{EpochOffset}
 use Rattle.pgp_group_words.specs.declared.spans.Span.{Span}
 use Rattle.pgp_group_words.proofs.spans.runs_of_epochs.Goals as goal
 
 -- one interval more
 one_more : (offset : EpochOffset) (xs : List Blocking) (i : ℕ) (d : Blocking) (old new : List Span) (next : Span) → i < length xs
-    → old ≡ fold then_run [] (map (epochs_of offset) (take i xs)) → next ≡ epochs_of offset (get_or xs i d) → new ≡ then_run old next
-    → new ≡ fold then_run [] (map (epochs_of offset) (take (i + 1) xs))
+    → old ≡ fold then_run [] (map (epochs_blocked offset) (take i xs)) → next ≡ epochs_blocked offset (get_or xs i d) → new ≡ then_run old next
+    → new ≡ fold then_run [] (map (epochs_blocked offset) (take (i + 1) xs))
 one_more offset xs i d old new next below now is joined =
     joined ∙ (λ k. then_run (now k) (is k))
-    ∙ sym (ap (fold then_run []) (map_more (epochs_of offset) xs i d below) ∙ fold_push then_run [] (map (epochs_of offset) (take i xs)) (epochs_of offset (get_or xs i d)))
+    ∙ sym (ap (fold then_run []) (map_more (epochs_blocked offset) xs i d below) ∙ fold_push then_run [] (map (epochs_blocked offset) (take i xs)) (epochs_blocked offset (get_or xs i d)))
 
-pub loop-interval-preserved : goal.loop-interval-preserved
-loop-interval-preserved c =
-    let next = c.epochs_of.ensures ∙ ap (epochs_of c.args.offset) c.interval-item.is in
-    one_more c.args.offset c.args.intervals.now c.loop-interval.interval-index c.interval-item.result _ _ _ c.loop-interval-test.true c.loop-interval.invariant next c.in_ok-join.ensures
+pub loop-blocking-preserved : goal.loop-blocking-preserved
+loop-blocking-preserved c =
+    let next = c.epochs_of.ensures ∙ ap (epochs_blocked c.args.offset) c.blocking-item.is in
+    one_more c.args.offset c.args.intervals.now c.loop-blocking.blocking-index c.blocking-item.result _ _ _ c.loop-blocking-test.true c.loop-blocking.invariant next c.in_ok-join.ensures

@@ -1,5 +1,5 @@
-use Rattle.pgp_reasons.proofs.WayLemmas.{more-helps}
+use Rattle.pgp_reasons.proofs.WholeWayLemmas.{more-helps}
 use Rattle.pgp_reasons.proofs.laws.more_helps.Goals as goal
 
 pub returns : goal.returns
-returns c = more-helps
+returns c starts losses more_starts more_losses = more-helps starts losses more_starts more_losses

@@ -1,4 +1,4 @@
-use Rattle.pgp_reasons.proofs.WayLemmas.{ways-enough, ways-of_them, ways-no_part, ways-each}
+use Rattle.pgp_reasons.proofs.WholeWayLemmas.{ways-enough, ways-of_them, ways-no_part, ways-each}
 use Rattle.pgp_reasons.proofs.laws.smallest_are_all.Goals as goal
 
 pub returns-clause-enough : goal.returns-clause-enough

@@ -3,7 +3,7 @@ use Rattle.pgp_code.specs.AnyCode.{enough_of, is_by_place}
 use Rattle.pgp_ids.specs.declared.entry.Entry.{Entry}
 use Rattle.pgp_group.specs.Entries.{incs_of}
 use Rattle.pgp_group.specs.GroupLog.{GroupLog}
-use Rattle.pgp_reasons.specs.GroupWays.{brings_back}
+use Rattle.pgp_reasons.specs.GroupWays.{is_down_with}
 use Rattle.pgp_reasons.specs.Reasons.{IsViewed}
 use Rattle.pgp_reasons.specs.Ways.{is_relieved}
 use Rattle.pgp_reasons.proofs.ReasonsLemmas.{asked-is, viewed-asked, unviewed}
@@ -13,14 +13,14 @@ use Rattle.pgp_reasons.proofs.outcome.unblocks.Goals as goal
 pub returns-in-Some : goal.returns-in-Some
 returns-in-Some c =
     let each : (log : List Entry) (g : GroupLog) → IsViewed log c.args.map.now c.args.pg c.args.view.now g
-    → c.is_relieved.result ≡ brings_back c.args.way g c.args.osds.now = λ log g is.
+    → c.is_relieved.result ≡ not (is_down_with c.args.starts.now c.args.losses.now g) = λ log g is.
     let asked = viewed-asked log c.args.map.now c.args.pg c.args.view.now g c.in-Some.pool (sym (c.in-Some.ensures.value (incs_of log) is.map_is)) is in
     c.is_relieved.ensures ∙ rw c.as_slice.ensures
-    (asked-is (λ code status view. is_relieved (enough_of code) (is_by_place code) status view.les view.intervals c.args.way c.args.osds.now)
+    (asked-is (λ code status lost view. is_relieved (enough_of code) (is_by_place code) status view.les view.intervals c.args.starts.now c.args.losses.now)
     g c.of_pool-code.result c.args.map.now c.args.view.now (asked.code_is ∙ sym c.of_pool-code.ensures) asked.map_is asked.view_is) in
     record {
       as_defined = each;
-      by_next_map = λ log g after inc is next goes. each log g is ∙ ap not (sym (brought_back c.args.way c.args.osds.now g after inc next goes));
+      by_next_map = λ log g after inc is next goes. each log g is ∙ ap not (sym (brought_back c.args.starts.now c.args.losses.now g after inc next goes));
     }
 
 pub returns-in-None : goal.returns-in-None

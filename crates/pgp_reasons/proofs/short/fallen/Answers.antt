@@ -3,7 +3,7 @@ use Rattle.std.proofs.lemmas.Bool.Decides.{nat_tests}
 use Rattle.pgp_lists.proofs.Ordered.{nat_order}
 use Rattle.pgp_prior.proofs.Lists.{numbers-in_order, walk-starts, walk-next}
 use Rattle.pgp_reasons.proofs.short.fallen.Goals as goal
-use Rattle.pgp_reasons.proofs.short.fallen.Goals.{then-le+in_ok-add_down, else-le}
+use Rattle.pgp_reasons.proofs.short.fallen.Goals.{then-le+in_ok-add_with, else-le}
 
 pub loop-interval-init : goal.loop-interval-init
 loop-interval-init c = walk-starts nat_order numbers-in_order [] [] _ c.args.past.now c.new-list.ensures.items
@@ -12,6 +12,6 @@ pub loop-interval-preserved : goal.loop-interval-preserved
 loop-interval-preserved c =
     walk-next nat_order c.args.past.now c.loop-interval.interval-index c.interval-item.result c.loop-interval.invariant c.loop-interval-test.true c.interval-item.is
     (elim c.if-le.branch [
-      | then-le+in_ok-add_down w ↦ inl (grind (arith, nat_tests), rw w.list-is w.in_ok-add_down.ensures)
+      | then-le+in_ok-add_with w ↦ inl (grind (arith, nat_tests), rw w.list-is w.in_ok-add_with.ensures)
       | else-le w ↦ inr (grind (arith, nat_tests), ap vec_items w.list-is)
     ])

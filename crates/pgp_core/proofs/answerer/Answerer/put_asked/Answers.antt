@@ -1,5 +1,5 @@
 use Rattle.std.proofs.lemmas.Result.{on_ok_weaker}
-use Rattle.pgp_text.specs.Commands.{Ask}
+use Rattle.pgp_lines.specs.declared.command.Command.TheVariants.{Ask}
 use Rattle.pgp_lists.proofs.Results.{on_err}
 use Rattle.pgp_core.proofs.ReplyLemmas.{ok_or, puts-reply}
 use Rattle.pgp_core.proofs.answerer.Answerer.put_asked.Goals as goal

@@ -1,5 +1,5 @@
 use Rattle.std.proofs.Common.{◌∙◌}
-use Rattle.pgp_log.specs.Running.{IsReading}
+use Rattle.pgp_shard.specs.Running.{IsReading}
 use Rattle.pgp_core.proofs.log.Log.ask.Goals as goal
 
 pub invariant_of-self : goal.invariant_of-self

@@ -1,5 +1,5 @@
 use Rattle.pgp_group.specs.Entries.{incs_of}
-use Rattle.pgp_log.proofs.RunningLemmas.{opening-reads}
+use Rattle.pgp_shard.proofs.RunningLemmas.{opening-reads}
 use Rattle.pgp_core.proofs.log.Log.of.Goals as goal
 
 pub invariant_of-result : goal.invariant_of-result

@@ -23,8 +23,8 @@ returns-in_err-put-clause-err g c =
       subst (IsStopped g.A.Answerer.alone start Write _) (append_assoc lines (all ∷ []) others) (cut_off g.A.Answerer.alone start (lines ++ all ∷ []) others _ _ _ _ told c.in_err-put.ensures.err),
     ))
 
-pub returns-in_err-close-clause-err : goal.returns-in_err-close-clause-err
-returns-in_err-close-clause-err g c =
+pub returns-in_err-flush-clause-err : goal.returns-in_err-flush-clause-err
+returns-in_err-flush-clause-err g c =
     let kept = c.answer-answer.ensures.text (none_there _ c.in_default.not-Some) in
     passed_on _ _ _ _ c.from_residual.ensures.1
-    (λ line holds start lines others same so_far. (λ read. cc, cut_off g.A.Answerer.alone start lines _ _ _ _ _ so_far (rw kept at c.in_err-close.ensures.err)))
+    (λ line holds start lines others same so_far. (λ read. cc, cut_off g.A.Answerer.alone start lines _ _ _ _ _ so_far (rw kept at c.in_err-flush.ensures.err)))

@@ -1,7 +1,7 @@
 use Rattle.std.proofs.Common.{◌≡◌, ◌<◌, [], ◌∷◌, ◌++◌, ◌∙◌, ap, length, subst, sym, append-nil, arith, length-append, length-take}
 use Rattle.std.proofs.lemmas.Bool.Decides.{nat_tests}
 use Rattle.std.proofs.lemmas.List.{nil_from_length, take_rest}
-use Rattle.pgp_core.specs.Telling.{IsAfter, StopsIn}
+use Rattle.pgp_core.specs.Telling.{IsAfterBytes, StopsIn}
 use Rattle.pgp_core.proofs.RunLemmas.{after-piece, full, line-front, passed_on, piece-front, regroup, regroup_line, stopped-after, taken-more}
 use Rattle.pgp_core.proofs.script.Script.take.Goals as goal
 
@@ -25,7 +25,7 @@ returns-in_err-end_line-in-Some-clause-err g c =
     (λ start bytes so_far.
     let taken = c.loop-rest.invariant.taken in
     let parts = line-front _ c.loop-rest.rest.now c.allowed-allowed.result.now c.in-Some.piece.now _ c.allowed-allowed.ensures c.in-Some.ensures.whole in
-    subst (StopsIn g.A.Answerer.alone start c.in_err-end_line-in-Some.field-0.0 (g.W.Sink.contents c.end_line.new.writer))
+    subst (StopsIn g.A.Answerer.alone start c.in_err-end_line-in-Some.field-0.0 (g.W.Sink.state c.end_line.new.writer).contents)
     (regroup_line bytes taken.done c.loop-rest.rest.now c.args.chunk.now c.in-Some.piece.now _ taken.whole parts)
     (c.in_err-end_line-in-Some.ensures.err start (bytes ++ taken.done) _ (taken.goes start bytes so_far)))
 
@@ -61,5 +61,5 @@ pub returns-clause-ok : goal.returns-clause-ok
 returns-clause-ok g c start bytes so_far =
     let taken = c.loop-rest.invariant.taken in
     let none : c.loop-rest.rest.now ≡ [] = nil_from_length c.loop-rest.rest.now (grind (arith, nat_tests)) in
-    subst (IsAfter g.A.Answerer.alone start c.loop-rest.self _ _)
+    subst (IsAfterBytes g.A.Answerer.alone start c.loop-rest.self _ _)
     (ap (λ l. bytes ++ l) (sym (append-nil taken.done) ∙ ap (λ l. taken.done ++ l) (sym none) ∙ taken.whole)) (taken.goes start bytes so_far)

@@ -1,7 +1,7 @@
 use Rattle.std.proofs.Common.{◌≡◌, [], List, ap, sym, ◌∙◌, subst}
 use Rattle.pgp_ids.specs.declared.entry.Entry.{Entry}
 use Rattle.pgp_log.specs.Log.{IsFrontOf}
-use Rattle.pgp_log.specs.Shard.{Shard}
+use Rattle.pgp_shard.specs.Shard.{Shard}
 use Rattle.pgp_feed.specs.Receipts.{entries_of, feed_of}
 use Rattle.pgp_feed.specs.Taps.{last_of}
 use Rattle.pgp_engine.proofs.FrontLemmas.{front_none}

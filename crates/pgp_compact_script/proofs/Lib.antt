@@ -1,5 +1,0 @@
-pub mod Lines
-pub mod Needed
-pub mod EntryLines
-pub mod Reading
-pub mod Script

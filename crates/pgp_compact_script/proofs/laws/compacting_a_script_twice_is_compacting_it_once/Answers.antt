@@ -1,5 +1,0 @@
-use Rattle.pgp_compact_script.proofs.Script.{remain-twice}
-use Rattle.pgp_compact_script.proofs.laws.compacting_a_script_twice_is_compacting_it_once.Goals as goal
-
-pub returns : goal.returns
-returns c = remain-twice

@@ -1,3 +1,0 @@
-pub mod Remaining
-pub mod Entries
-pub mod Compaction

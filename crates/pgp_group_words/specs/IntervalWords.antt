@@ -1,0 +1,70 @@
+-- What is said in words of a past interval that blocks a group.
+use Rattle.std.specs.Prelude.{ℕ, ◌==◌, List, [], ◌∷◌, Bool, length, map, filter, Option, Some, None, codes, decimal, if◌then◌else◌}
+use Rattle.pgp_ids.specs.Osds.{first_osd}
+use Rattle.pgp_ids.specs.declared.member.Member.{Member}
+use Rattle.pgp_prior.specs.Members.{members_of}
+use Rattle.pgp_reasons.specs.Smallest.{holds}
+use Rattle.pgp_reasons.specs.declared.blocking.Blocking.{Blocking}
+use Rattle.pgp_reasons.specs.declared.fates.IntervalNow.{IntervalNow}
+use Rattle.pgp_group_words.specs.Text.{Text, joined, line, listed}
+use Rattle.pgp_group_words.specs.Names.{epoch_name, device_name, leader_name, member_name, places_name, are, plural}
+use Rattle.pgp_group_words.specs.Spans.{epochs_in}
+use Rattle.pgp_group_words.specs.declared.names.Naming.{Naming}
+use Rattle.pgp_group_words.specs.declared.offset.EpochOffset.{EpochOffset}
+
+-- why an interval may have gone read-write: a report that the group was clean in this epoch, or what the map recorded of its
+-- primary
+unfoldable pub read_write_line : Option ℕ → EpochOffset → Option ℕ → Text
+read_write_line (Some clean) offset primary =
+    line (codes "  it may have gone read-write: a report says that the group was clean in epoch " ∷ epoch_name offset clean ∷ [])
+read_write_line None offset primary =
+    line (codes "  it may have gone read-write: the map recorded that its primary, " ∷ leader_name primary ∷ codes ", was up in it" ∷ [])
+
+-- what it needs this many of
+abbrev pub member_noun : Bool → ℕ → Text
+member_noun by_place count = if by_place then plural count (codes "shard") (codes "shards") else plural count (codes "member") (codes "members")
+
+-- when an interval was, who served, and what it needs
+unfoldable pub waits_line : Naming → Blocking → Text
+waits_line naming blocking = line (
+    codes "\nIt waits for the interval of "
+    ∷ epochs_in blocking.interval naming.offset
+    ∷ codes " on "
+    ∷ places_name blocking.interval.acting
+    ∷ codes ", which needs "
+    ∷ decimal blocking.lacks
+    ∷ codes " more "
+    ∷ member_noun naming.by_place blocking.lacks
+    ∷ codes ":"
+    ∷ [])
+
+-- the acting members on these devices
+abbrev pub members_on : Bool → List (Option ℕ) → List ℕ → List Member
+members_on by_place acting osds = filter (λ member. holds osds member.osd) (members_of by_place acting)
+
+-- its members that are down
+unfoldable pub down_line : Naming → List Member → Text
+down_line naming members =
+    line (codes "  " ∷ listed (map (member_name naming) members) ∷ codes " " ∷ are (length members) ∷ codes " down" ∷ [])
+
+-- what has become of others of its devices, if of any
+unfoldable pub fate_line : Text → List ℕ → Text
+fate_line fate osds =
+    if length osds == 0 then []
+    else line (codes "  " ∷ listed (map device_name osds) ∷ codes " " ∷ plural (length osds) (codes "was ") (codes "were ") ∷ fate ∷ [])
+
+unfoldable pub fate_lines : IntervalNow → Text
+fate_lines interval = joined (
+    fate_line (codes "declared lost before it began, which doesn't count for it") interval.lost_before
+    ∷ fate_line (codes "declared lost, and no longer waited for") interval.lost
+    ∷ fate_line (codes "destroyed, and can't be waited for") interval.gone
+    ∷ [])
+
+-- an interval that blocks
+unfoldable pub interval_lines : Naming → Blocking → Text
+interval_lines naming blocking = joined (
+    waits_line naming blocking
+    ∷ down_line naming (members_on naming.by_place blocking.interval.acting blocking.interval.down)
+    ∷ fate_lines blocking.interval
+    ∷ read_write_line blocking.clean naming.offset (first_osd blocking.interval.acting)
+    ∷ [])

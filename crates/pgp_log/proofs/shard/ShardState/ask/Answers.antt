@@ -1,5 +1,0 @@
-use Rattle.pgp_log.proofs.ShardLemmas.{unmarked-now}
-use Rattle.pgp_log.proofs.shard.ShardState.ask.Goals as goal
-
-pub copy-requires-clause-unmarked : goal.copy-requires-clause-unmarked
-copy-requires-clause-unmarked c = unmarked-now c.args.pg c.args.self.now c.work_out.new.self (c.in_ok-work_out.ensures.marks (λ e. cc))

@@ -1,0 +1,154 @@
+//! What it costs to end the wait of a group.
+
+ghost use Rattle.std.specs.Prelude.{◌≡◌, List, IfOk};
+ghost use Rattle.std.specs.List.{list_any};
+ghost use Rattle.pgp_ids.specs.declared.entry.Entry.{Entry};
+ghost use Rattle.pgp_map.specs.Held.{held_lost_at};
+ghost use Rattle.pgp_sets.specs.Status.{held_status};
+ghost use Rattle.pgp_group.specs.GroupLog.{GroupLog};
+ghost use Rattle.pgp_reasons.specs.Price.{concerns, gives_up, is_given_up, price, price_by, slots_left};
+ghost use Rattle.pgp_reasons.specs.Reasons.{IsViewed};
+ghost use Rattle.pgp_reasons.specs.Ways.{status_after};
+
+use super::blocking::matters;
+use super::changed_statuses::ChangedStatuses;
+use super::fates::{IntervalNow, add_held, are_held};
+use pgp_code::{AnyCode, Recoverable};
+use pgp_ids::{Epoch, OsdId, Past, PgId, Seq, SlotSet, View};
+use pgp_map::OsdMap;
+use pgp_prior::blocks;
+use pgp_sets::StatusOf;
+use std::alloc::{AllocError, Global};
+
+/// What it costs to boot some devices and to declare others lost.
+#[derive(Drop)]
+pub struct Price {
+    /// The past intervals that the way concerns, as they are after it, in ascending order: those that blocked the group, and
+    /// those whose writes could be read with the devices that were down, and no longer can. The group goes on without the writes
+    /// of those that aren't readable.
+    pub intervals: Seq<IntervalNow>,
+    /// Whether too few devices are left, up or down, of all that ever served, for any object to be read.
+    pub unreadable: bool,
+}
+
+/// What it costs to boot these devices and to declare those lost, for the group of this view, which is by a log whose last map
+/// is this one. Nothing if the map doesn't have the pool.
+pub fn price_of(
+    alloc: Global,
+    map: &OsdMap,
+    pg: PgId,
+    view: &View,
+    starts: &[OsdId],
+    losses: &[OsdId],
+) -> Result<Price, AllocError>
+    ensures { IfOk result (λ cost. (log : List Entry) (g : GroupLog) → IsViewed log map.now pg view.now g
+        → cost ≡ price starts.now losses.now g) }
+{
+    match map.pool(pg.pool) {
+        Some(pool) => {
+            let code = AnyCode::of_pool(pool.kind);
+            let past = view.intervals.as_slice();
+            price_by(alloc, &code, map, view.les, past, starts, losses)
+        }
+        None => Ok(Price {
+            intervals: Seq::new(alloc),
+            unreadable: false,
+        }),
+    }
+}
+
+/// Whether to boot these devices and to declare those lost gives up what was written in some past interval, for the group of this
+/// view, which is by a log whose last map is this one. It takes no memory.
+pub fn gives_up(map: &OsdMap, pg: PgId, view: &View, starts: &[OsdId], losses: &[OsdId]) -> bool
+    ensures { (log : List Entry) (g : GroupLog) → IsViewed log map.now pg view.now g → result ≡ gives_up starts.now losses.now g }
+{
+    match map.pool(pg.pool) {
+        Some(pool) => {
+            let code = AnyCode::of_pool(pool.kind);
+            let past = view.intervals.as_slice();
+            gives_up_by(&code, map, view.les, past, starts, losses)
+        }
+        None => false,
+    }
+}
+
+/// The same for a group of a pool with this code and with these past intervals, which last began to serve in the epoch `les`.
+fn gives_up_by(
+    code: &AnyCode,
+    map: &OsdMap,
+    les: Epoch,
+    past: &[Past],
+    starts: &[OsdId],
+    losses: &[OsdId],
+) -> bool
+    ensures { result ≡ list_any (is_given_up code.now (held_status map.now) (status_after starts.now losses.now (held_status map.now)) les) past.now }
+{
+    let after = ChangedStatuses {
+        statuses: map,
+        these: &[],
+        those: starts,
+        losses,
+    };
+    past.iter().any(|interval| concerns(code, map, &after, les, interval)
+        && !are_held(false, code, &after, interval))
+}
+
+/// What the way costs a group of a pool with this code and with these past intervals, which last began to serve in the epoch `les`.
+fn price_by(
+    alloc: Global,
+    code: &AnyCode,
+    map: &OsdMap,
+    les: Epoch,
+    past: &[Past],
+    starts: &[OsdId],
+    losses: &[OsdId],
+) -> Result<Price, AllocError>
+    ensures { IfOk result (λ price. price ≡ price_by code.now (held_status map.now)
+        (status_after starts.now losses.now (held_status map.now)) (held_lost_at map.now) les past.now) }
+{
+    let after = ChangedStatuses {
+        statuses: map,
+        these: &[],
+        those: starts,
+        losses,
+    };
+    let mut intervals = Vec::new(alloc);
+    for interval in past {
+        if concerns(code, map, &after, les, interval) {
+            intervals.push(IntervalNow::of(alloc, code, &after, map, interval)?)?;
+        }
+    }
+    Ok(Price {
+        intervals: Seq::from_vec(intervals),
+        unreadable: !code.enough(slots_left(code, &after, past)),
+    })
+}
+
+/// Whether the way concerns the interval.
+fn concerns<B: StatusOf, A: StatusOf>(
+    code: &AnyCode,
+    before: &B,
+    after: &A,
+    les: Epoch,
+    interval: &Past,
+) -> bool
+    ensures { result ≡ concerns code.now (B.status_of before.now) (A.status_of after.now) les interval.now }
+{
+    matters(les, interval)
+        && (blocks(code, before, les, interval)
+            || (are_held(true, code, before, interval) && !are_held(true, code, after, interval)))
+}
+
+/// The slots that the devices still have, up or down, which served in some interval that may have gone read-write.
+fn slots_left<S: StatusOf>(code: &AnyCode, statuses: &S, past: &[Past]) -> SlotSet
+    ensures { result ≡ slots_left code.now (S.status_of statuses.now) past.now }
+{
+    let by_place = code.by_place();
+    let mut slots = SlotSet::empty();
+    for interval in past {
+        if interval.rw {
+            slots = add_held(slots, true, by_place, statuses, interval);
+        }
+    }
+    slots
+}

@@ -1,0 +1,13 @@
+pub mod Common
+pub mod WorldLemmas
+pub mod RunningLemmas
+pub mod KeptLemmas
+pub mod StillLemmas
+pub mod OsdFilterLemmas
+pub mod RowLemmas
+pub mod GroupsLemmas
+pub mod PassingLemmas
+pub mod MarksLemmas
+pub mod OwnGroupsLemmas
+pub mod KeptBesideLemmas
+pub mod ShardLemmas

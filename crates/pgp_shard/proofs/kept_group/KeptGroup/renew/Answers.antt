@@ -1,0 +1,16 @@
+use Rattle.pgp_shard.proofs.Common.{refl, incs_of}
+use Rattle.pgp_shard.proofs.KeptLemmas.{group-still, kept-anew, kept-worked_out}
+use Rattle.pgp_shard.proofs.kept_group.KeptGroup.renew.Goals as goal
+
+pub returns-in_err-view-clause-kept : goal.returns-in_err-view-clause-kept
+returns-in_err-view-clause-kept c = λ log is made long.
+    let old = c.args.self.now in
+    let stood = group-still log old old.pg c.stay.new.self c.epoch.result is refl c.stay.ensures.is (c.epoch.ensures (incs_of log) made) in
+    kept-anew log old c.view.new.self is (c.view.ensures.same log old.pg stood made)
+
+pub returns-in_ok-view-clause-kept : goal.returns-in_ok-view-clause-kept
+returns-in_ok-view-clause-kept c = λ log is made long.
+    let old = c.args.self.now in
+    let stood = group-still log old old.pg c.stay.new.self c.epoch.result is refl c.stay.ensures.is (c.epoch.ensures (incs_of log) made) in
+    kept-worked_out log old c.view.new.self c.in_ok-view.field-0 is (c.view.ensures.same log old.pg stood made)
+    (c.in_ok-view.ensures.view log old.pg stood made long)

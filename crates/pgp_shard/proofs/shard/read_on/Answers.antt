@@ -1,0 +1,18 @@
+use Rattle.pgp_shard.proofs.KeptBesideLemmas.{groups-there, marks-away}
+use Rattle.pgp_log.proofs.LogLemmas.{legal-snoc}
+use Rattle.pgp_shard.proofs.shard.read_on.Goals as goal
+
+pub absorb-requires : goal.absorb-requires
+absorb-requires c = record { log = c.requires.log; is = groups-there c.args.owner c.requires.log c.args.kept c.in-Some.groups c.requires.is c.in-Some.is; fits = c.requires.fits }
+
+pub returns-in_default-clause-is : goal.returns-in_default-clause-is
+returns-in_default-clause-is c = λ log is fit. record { legal = legal-snoc log c.args.entry.now is.legal fit; groups_are = tt }
+
+pub returns-in_default-clause-marks : goal.returns-in_default-clause-marks
+returns-in_default-clause-marks c = λ log is fit. rw c.in_default.is (marks-away c.args.owner log c.args.entry.now fit)
+
+pub returns-clause-is : goal.returns-clause-is
+returns-clause-is c = λ log is fit. record {
+  legal = legal-snoc log c.args.entry.now is.legal fit;
+  groups_are = c.in_ok-absorb.ensures.ok log (groups-there c.args.owner log c.args.kept c.in-Some.groups is c.in-Some.is) fit;
+}

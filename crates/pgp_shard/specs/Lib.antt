@@ -1,0 +1,6 @@
+pub mod Shard
+pub mod World
+pub mod WorldRun
+pub mod Running
+pub mod kept
+pub mod Examples

@@ -1,0 +1,5 @@
+-- What a shard keeps beside the entries that it has read. Contracts of private calls cite it.
+pub mod OsdFilter
+pub mod KeptGroup
+pub mod Rows
+pub mod Groups

@@ -1,0 +1,11 @@
+use Rattle.std.proofs.Common.{◌+◌, take, nat_eq, arith}
+use Rattle.std.specs.List.{count_by}
+use Rattle.std.proofs.lemmas.Grind.{common_steps}
+use Rattle.std.proofs.lemmas.List.Sums.{count_by_more_yes, count_by_more_no}
+use Rattle.pgp_whole.proofs.group_counts.GroupCounts.add.Goals as goal
+
+pub loop-osd-preserved : goal.loop-osd-preserved
+loop-osd-preserved c = λ osd n below was.
+    let before = c.loop-osd.invariant osd n below was in
+    let after = c.add_one.ensures osd (n + count_by (nat_eq osd) (take c.loop-osd.osd-index c.args.osds.now)) below before in
+    grind (arith, common_steps, count_by_more_yes, count_by_more_no)

@@ -1,0 +1,13 @@
+use Rattle.std.proofs.Common.{◌≡◌, take}
+use Rattle.std.specs.List.{filter_map}
+use Rattle.pgp_group.specs.GroupLog.{group_in}
+use Rattle.pgp_whole.specs.Hearing.{AreAllHeard}
+use Rattle.pgp_whole.specs.Sums.{AreAwaited}
+use Rattle.pgp_whole.proofs.summary.awaited_of.Given as goal
+
+abbrev pub invariant-loop-pg : goal.invariant-loop-pg
+invariant-loop-pg l = record {
+  same : l.log ≡ l.fn.log;
+  counts : AreAllHeard (filter_map (group_in l.fn.log) l.groups) l.waiting l.heard
+      → AreAwaited (filter_map (group_in l.fn.log) (take l.pg-index l.groups)) l.counts;
+}

@@ -1,0 +1,13 @@
+pub mod Remaining
+pub mod Entries
+pub mod Compaction
+pub mod Pools
+pub mod Summary
+pub mod Ranks
+pub mod Sums
+pub mod Hearing
+pub mod SummaryText
+pub mod Reading
+pub mod Explained
+pub mod Advice
+pub mod Explanation

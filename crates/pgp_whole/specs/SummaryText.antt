@@ -1,0 +1,119 @@
+-- What is said of a summary, in words and as JSON.
+use Rattle.std.specs.Prelude.{ℕ, ◌==◌, List, [], ◌∷◌, ◌++◌, Bool, ◌&&◌, nat_lt, length, flat_map, codes, decimal, if◌then◌else◌}
+use Rattle.serde_json.specs.Data.{Data}
+use Rattle.serde_json.specs.Written.{compact_text}
+use Rattle.pgp_ids.specs.Names.{verdict_name}
+use Rattle.pgp_ids.specs.declared.verdict.Verdict.{Verdict}
+use Rattle.pgp_ids.specs.declared.verdict.Verdict.TheVariants.{NoPrimary, Down, Waiting, Incomplete, Short, NeedLog, NeedUpThru, Serve}
+use Rattle.pgp_group.specs.Verdict.{in_order}
+use Rattle.pgp_text.specs.Json.{Field, object_with, number_data, list_data}
+use Rattle.pgp_group_words.specs.Text.{Text, joined, line}
+use Rattle.pgp_group_words.specs.Names.{epoch_name, device_name, plural}
+use Rattle.pgp_group_words.specs.Json.{epoch_data}
+use Rattle.pgp_group_words.specs.declared.offset.EpochOffset.{EpochOffset}
+use Rattle.pgp_whole.specs.Summary.{Awaited, verdict_count, group_total}
+use Rattle.pgp_whole.specs.declared.summary.Summary.{Summary}
+use Rattle.pgp_whole.specs.declared.waits.Waits.{Waits}
+use Rattle.pgp_whole.specs.declared.tally.Tally.{Tally}
+
+-- ---- in words
+
+-- how many groups there are, by the map of which epoch
+unfoldable pub total_line : Summary → EpochOffset → Text
+total_line summary offset = line (
+    decimal (group_total summary.tally)
+    ∷ codes " "
+    ∷ plural (group_total summary.tally) (codes "group") (codes "groups")
+    ∷ codes " at epoch "
+    ∷ epoch_name offset summary.epoch
+    ∷ [])
+
+-- how many have this verdict, where some have it
+unfoldable pub verdict_line : Tally → Verdict → Text
+verdict_line tally verdict =
+    if verdict_count tally verdict == 0 then []
+    else line (codes "  " ∷ verdict_name verdict ∷ codes " " ∷ decimal (verdict_count tally verdict) ∷ [])
+
+-- a line for each verdict, in the order in which their causes are looked at
+unfoldable pub tally_lines : Tally → Text
+tally_lines tally = flat_map (verdict_line tally) in_order
+
+-- what a device does to this many groups
+abbrev pub count_part : Text → ℕ → Text
+count_part does count = joined (does ∷ codes " " ∷ decimal count ∷ codes " " ∷ plural count (codes "group") (codes "groups") ∷ [])
+
+unfoldable pub blocks_part : ℕ → Text
+blocks_part count = if count == 0 then [] else count_part (codes "blocks") count
+
+unfoldable pub frees_part : ℕ → Text
+frees_part count = if count == 0 then [] else joined (codes ", and alone frees " ∷ decimal count ∷ [])
+
+unfoldable pub awaited_part : ℕ → Text
+awaited_part count = if count == 0 then [] else count_part (codes "has yet to be heard by") count
+
+unfoldable pub both_part : Waits → Text
+both_part waits = if nat_lt 0 waits.blocks && nat_lt 0 waits.awaited then codes ", and " else []
+
+-- how many groups a device blocks, how many of them it frees alone, and how many wait to hear from it
+unfoldable pub device_line : Awaited → Text
+device_line device = line (
+    device_name device.0
+    ∷ codes " "
+    ∷ blocks_part device.1.blocks
+    ∷ frees_part device.1.frees
+    ∷ both_part device.1
+    ∷ awaited_part device.1.awaited
+    ∷ [])
+
+-- an empty line before the devices, where there are some
+abbrev pub gap_before : List Awaited → Text
+gap_before devices = if length devices == 0 then [] else codes "\n"
+
+unfoldable pub device_lines : List Awaited → Text
+device_lines devices = gap_before devices ++ flat_map device_line devices
+
+-- what is said of a summary in words
+unfoldable pub summary_words : Summary → EpochOffset → Text
+summary_words summary offset = joined (total_line summary offset ∷ tally_lines summary.tally ∷ device_lines summary.devices ∷ [])
+
+-- ---- as JSON
+
+abbrev pub device_data : Awaited → Data
+device_data device = object_with (
+    (codes "awaited", number_data device.1.awaited)
+    ∷ (codes "blocks", number_data device.1.blocks)
+    ∷ (codes "frees", number_data device.1.frees)
+    ∷ (codes "osd", number_data device.0)
+    ∷ [])
+
+-- a verdict that some group has
+abbrev pub verdict_field : Tally → Verdict → List Field
+verdict_field tally verdict =
+    if verdict_count tally verdict == 0 then [] else (verdict_name verdict, number_data (verdict_count tally verdict)) ∷ []
+
+-- the verdicts, in the ascending order of their names
+abbrev pub verdicts_by_name : List Verdict
+verdicts_by_name = Down ∷ Incomplete ∷ NeedLog ∷ NeedUpThru ∷ NoPrimary ∷ Serve ∷ Short ∷ Waiting ∷ []
+
+unfoldable pub tally_fields : Tally → List Field
+tally_fields tally = flat_map (verdict_field tally) verdicts_by_name
+
+abbrev pub tally_data : Tally → Data
+tally_data tally = object_with (tally_fields tally)
+
+abbrev pub summary_data : EpochOffset → Summary → Data
+summary_data offset summary = object_with (
+    (codes "devices", list_data device_data summary.devices)
+    ∷ (codes "epoch", epoch_data offset summary.epoch)
+    ∷ (codes "groups", number_data (group_total summary.tally))
+    ∷ (codes "verdicts", tally_data summary.tally)
+    ∷ [])
+
+unfoldable pub summary_json : Summary → EpochOffset → Text
+summary_json summary offset = compact_text (summary_data offset summary) ++ 10 ∷ []
+
+-- ---- either
+
+-- what there is to say of the summary, as JSON or else in words
+abbrev pub summary_text : Bool → Summary → EpochOffset → Text
+summary_text json summary offset = if json then summary_json summary offset else summary_words summary offset

@@ -1,0 +1,41 @@
+//! What is said of a script that was read to its end: the lines of it that remain, why a group doesn't serve, and for which
+//! devices all groups wait.
+//!
+//! [`compact_script`] writes the lines whose entries `pgp_compact` keeps, byte for byte and in their order. Its laws say that a
+//! run of what is written takes just the compacted log.
+//!
+//! [`explain`] has a log take the entries, and asks at its end. Of a group it tells the view from scratch by the entries that were
+//! taken, and the reasons of pgp_reasons. Of all groups it tells a `Summary`, made of the views of all. pgp_group_words has the
+//! words for a group. What is wrong with a line that was refused is said here, by the place that pgp_lines gives.
+#![tactic(auto)]
+
+mod advice;
+mod all_groups;
+mod choice;
+mod compact;
+mod compact_fault;
+mod devices;
+mod entries;
+mod explain_fault;
+mod fault;
+mod group_counts;
+mod group_sums;
+mod groups;
+mod heard_of;
+pub mod laws;
+mod pools;
+mod read;
+mod subcommand;
+mod summary;
+mod summary_json;
+mod summary_text;
+mod summary_words;
+mod tally;
+mod text;
+mod unheard;
+mod waits;
+
+pub use compact::{Compaction, compact_script};
+pub use compact_fault::CompactFault;
+pub use explain_fault::ExplainFault;
+pub use subcommand::explain;

@@ -1,0 +1,284 @@
+// The calls of pgpeer.h that take and give values, held against lines, for dev/check_c_library.py.
+//
+//     typed         each call
+//     typed refuse  the same, once for each call of the allocator, which is refused: what there was no memory for is called again
+//
+// Ends in status 1 where something is wrong, and says what.
+#include <stdio.h>
+#include <stdlib.h>
+#include <string.h>
+
+#include "pgpeer.h"
+
+#define CHECK(holds) \
+    do { \
+        if (!(holds)) { \
+            fprintf(stderr, "typed: line %d: %s\n", __LINE__, #holds); \
+            exit(1); \
+        } \
+    } while (0)
+
+static pgp_session session = PGP_SESSION;
+static char answer[1 << 16];
+
+// The library's calls of the allocator come here by the linker's --wrap. The one of this number, from 1 on, is refused.
+static long calls, refused;
+
+void *__real_malloc(size_t size);
+void *__real_realloc(void *at, size_t size);
+
+void *__wrap_malloc(size_t size) {
+    return ++calls == refused ? NULL : __real_malloc(size);
+}
+
+void *__wrap_realloc(void *at, size_t size) {
+    return ++calls == refused ? NULL : __real_realloc(at, size);
+}
+
+static uint32_t last;
+
+static int lacks_memory(uint32_t status) {
+    last = status;
+    if (status == PGP_NO_MEMORY && (!refused || calls < refused)) {
+        fprintf(stderr, "typed: no memory where none was refused\n");
+        exit(1);
+    }
+    return status == PGP_NO_MEMORY;
+}
+
+// The status of a call, which is made again where there was no memory for it.
+#define MADE(call) (lacks_memory(call) ? (call) : last)
+
+// Tells the session a line, and keeps the answer as a string.
+static const char *tell(const char *line) {
+    size_t length;
+    CHECK(MADE(pgp_line(&session, (const uint8_t *)line, strlen(line), (uint8_t *)answer, sizeof answer - 1, &length)) == PGP_DONE);
+    answer[length] = 0;
+    return answer;
+}
+
+static int has(const char *part) {
+    return strstr(answer, part) != NULL;
+}
+
+static uint32_t locate(uint32_t pool, const char *name, pgp_place *place) {
+    return MADE(pgp_locate(&session, pool, (const uint8_t *)name, strlen(name), place));
+}
+
+// The eight lines of the README's outage, with the infos told in values.
+static void outage(void) {
+    tell("{\"op\":\"inc\",\"epoch\":1,\"up\":[0,1,2],\"weight\":[[1,0],[2,0]],\"up_thru\":[[0,1]],\"crush\":[{\"id\":-1,\"type\":1,"
+         "\"alg\":\"uniform\",\"items\":[0,1,2]}],\"pools\":[{\"id\":1,\"pg_num\":1,\"kind\":\"replicated\",\"size\":3,\"min_size\":2,"
+         "\"leaf\":0}],\"temp\":[[1,0,[0,1,2]]]}");
+    CHECK(has("\"ok\":\"inc\""));
+    tell("{\"op\":\"inc\",\"epoch\":2,\"down\":[0]}");
+    pgp_view view;
+    CHECK(MADE(pgp_ask(&session, 1, 0, &view)) == PGP_DONE);
+    CHECK(view.verdict == PGP_WAITING && view.count == 2 && view.epoch == 2 && view.first == 2 && view.intervals == 1);
+    CHECK(view.best_osd == PGP_NO_DEVICE && view.probe == 2 && view.missing == 0);
+    pgp_info info = {.pool = 1, .osd = 1, .stamp = 2, .last_update_epoch = 1, .last_update = 2, .complete = true};
+    CHECK(MADE(pgp_submit_info(&session, &info)) == PGP_DONE);
+    info.osd = 2;
+    info.last_update = 1;
+    CHECK(MADE(pgp_submit_info(&session, &info)) == PGP_DONE);
+    tell("{\"op\":\"entries\",\"pg\":[1,0],\"from\":[1,0],\"stamp\":2,\"log\":[[1,1,\"modify\",\"a\"],[1,2,\"modify\",\"b\"]]}");
+    tell("{\"op\":\"inc\",\"epoch\":3,\"up_thru\":[[1,2]]}");
+}
+
+static void views(void) {
+    tell("{\"op\":\"ask\",\"pg\":[1,0]}");
+    CHECK(has("\"verdict\":\"Serve\"") && has("\"best\":[1,0]") && has("\"count\":6,\"epoch\":3,\"first\":2"));
+    pgp_view view;
+    CHECK(MADE(pgp_ask(&session, 1, 0, &view)) == PGP_DONE);
+    CHECK(view.verdict == PGP_SERVE && strcmp(pgp_verdict_name(view.verdict), "Serve") == 0);
+    CHECK(view.count == 6 && view.epoch == 3 && view.first == 2 && view.les == 0);
+    CHECK(view.best_osd == 1 && view.best_slot == 0 && view.acting_primary == 1 && view.up_primary == PGP_NO_DEVICE);
+    CHECK(view.acting_length == 2 && view.acting[0] == 1 && view.acting[1] == 2 && view.acting[2] == PGP_NO_DEVICE);
+    CHECK(view.up_length == 0 && view.up[0] == PGP_NO_DEVICE && view.acting[15] == PGP_NO_DEVICE);
+    CHECK(view.intervals == 1 && view.probe == 2 && view.blocked_by == 0 && view.missing == 1);
+}
+
+static void lists(void) {
+    size_t count = 99;
+    pgp_member probe[3] = {{7, 7}, {7, 7}, {7, 7}};
+    CHECK(MADE(pgp_probe(&session, 1, 0, probe, 1, &count)) == PGP_ROOM_TOO_SMALL && count == 2 && probe[0].osd == 7);
+    CHECK(MADE(pgp_probe(&session, 1, 0, probe, 3, &count)) == PGP_DONE && count == 2);
+    CHECK(probe[0].osd == 1 && probe[0].slot == 0 && probe[1].osd == 2 && probe[2].osd == 7);
+    pgp_interval past[1];
+    CHECK(MADE(pgp_intervals(&session, 1, 0, past, 1, &count)) == PGP_DONE && count == 1);
+    CHECK(past->first == 1 && past->last == 1 && past->rw && past->size == 3 && past->min_size == 2);
+    CHECK(past->acting_length == 3 && past->acting[2] == 2 && past->acting_primary == 0 && past->up_length == 1);
+    uint16_t devices[1] = {7};
+    CHECK(MADE(pgp_blocked_by(&session, 1, 0, devices, 1, &count)) == PGP_DONE && count == 0 && devices[0] == 7);
+    pgp_peer peers[1];
+    CHECK(MADE(pgp_missing(&session, 1, 0, peers, 1, &count)) == PGP_DONE && count == 1);
+    CHECK(peers->osd == 2 && peers->slot == 0 && peers->state == PGP_MISSING && peers->objects == 1);
+    CHECK(MADE(pgp_missing(&session, 1, 1, peers, 1, &count)) == PGP_ASK_UNKNOWN_GROUP && count == 0);
+    CHECK(MADE(pgp_missing(&session, 0, 0, peers, 1, &count)) == PGP_BAD_ARGUMENT && count == 0);
+}
+
+static uint32_t objects_of(uint32_t pg, uint32_t osd, uint32_t slot, pgp_object *room, size_t length, size_t *count) {
+    return MADE(pgp_missing_objects(&session, 1, pg, osd, slot, room, length, count));
+}
+
+// Device 2 lacks b alone.
+static void objects(void) {
+    size_t count = 99;
+    pgp_object room[3];
+    memset(room, 7, sizeof room);
+    CHECK(objects_of(0, 2, 0, room, 0, &count) == PGP_ROOM_TOO_SMALL && count == 1 && room->name_length == 7);
+    CHECK(objects_of(0, 2, 0, room, 3, &count) == PGP_DONE && count == 1);
+    CHECK(room->epoch == 1 && room->number == 2 && room->name_length == 1 && room->name[0] == 'b');
+    for (int at = 1; at < 255; at++) CHECK(room->name[at] == 0);
+    CHECK(room[1].epoch == 0x07070707 && room[1].name[0] == 7);
+    CHECK(objects_of(0, 1, 0, room, 3, &count) == PGP_NO_LIST && count == 0 && room->number == 2);
+    count = 99;
+    CHECK(objects_of(0, 2, 1, room, 3, &count) == PGP_NO_LIST && count == 0);
+    CHECK(objects_of(1, 2, 0, room, 3, &count) == PGP_ASK_UNKNOWN_GROUP && count == 0);
+    CHECK(objects_of(1024, 2, 0, room, 3, &count) == PGP_BAD_ARGUMENT && objects_of(0, 4096, 0, room, 3, &count) == PGP_BAD_ARGUMENT);
+    CHECK(objects_of(0, 2, 16, room, 3, &count) == PGP_BAD_ARGUMENT && count == 0 && room->number == 2);
+}
+
+// The two objects of a new report, one of a long name, both of which device 2 lacks.
+static void long_names(void) {
+    char line[700], name[256];
+    memset(name, 'n', 255);
+    name[255] = 0;
+    snprintf(line, sizeof line, "{\"op\":\"entries\",\"pg\":[1,0],\"from\":[1,0],\"stamp\":3,\"log\":[[1,1,\"modify\",\"%s\"],[1,2,\"modify\",\"z\"]]}", name);
+    tell(line);
+    CHECK(has("\"ok\":\"entries\""));
+    tell("{\"op\":\"info\",\"pg\":[1,0],\"from\":[2,0],\"stamp\":3,\"les\":0,\"history_les\":0,\"last_update\":[0,0],\"log_tail\":[0,0],"
+         "\"complete\":true}");
+    tell("{\"op\":\"ask\",\"pg\":[1,0]}");
+    snprintf(line, sizeof line, "\"objects\":{\"%s\":[1,1],\"z\":[1,2]}", name);
+    CHECK(has(line));
+    size_t count;
+    pgp_object room[2];
+    CHECK(objects_of(0, 2, 0, room, 2, &count) == PGP_DONE && count == 2);
+    CHECK(room[0].name_length == 255 && memcmp(room[0].name, name, 255) == 0 && room[0].epoch == 1 && room[0].number == 1);
+    CHECK(room[1].name_length == 1 && room[1].name[0] == 'z' && room[1].name[1] == 0 && room[1].number == 2);
+}
+
+// An info that the same member tells once more is left out, and the group's view is the same except for its count.
+static void compaction(void) {
+    pgp_view before, after;
+    pgp_info info = {.pool = 1, .osd = 2, .stamp = 3, .last_update_epoch = 1, .last_update = 1, .complete = true};
+    size_t left_out = 99;
+    CHECK(MADE(pgp_submit_info(&session, &info)) == PGP_DONE);
+    tell("{\"op\":\"locate\",\"pool\":1,\"name\":\"a\"}");
+    CHECK(MADE(pgp_ask(&session, 1, 0, &before)) == PGP_DONE && before.count == 7);
+    CHECK(MADE(pgp_compact_log(&session, &left_out)) == PGP_DONE && left_out == 1);
+    CHECK(MADE(pgp_ask(&session, 1, 0, &after)) == PGP_DONE && after.count == 6);
+    CHECK(after.verdict == before.verdict && after.epoch == before.epoch && after.first == before.first && after.les == before.les);
+    CHECK(after.best_osd == before.best_osd && after.missing == before.missing && after.intervals == before.intervals);
+    CHECK(after.probe == before.probe && memcmp(after.acting, before.acting, sizeof after.acting) == 0);
+    CHECK(MADE(pgp_compact_log(&session, &left_out)) == PGP_DONE && left_out == 0);
+    size_t length;
+    CHECK(pgp_answer(&session, (uint8_t *)answer, sizeof answer, &length) == PGP_DONE && has("\"ok\":\"locate\""));
+}
+
+// A full log has room again after it was compacted.
+static void full(void) {
+    pgp_info info = {.pool = 1, .osd = 2, .stamp = 2, .last_update_epoch = 1, .last_update = 1, .complete = true};
+    pgp_view view;
+    size_t left_out = 99;
+    CHECK(pgp_compact_log(&session, &left_out) == PGP_NOT_OPEN && left_out == 0);
+    CHECK(pgp_open(&session) == PGP_DONE);
+    outage();
+    for (int count = 6; count < 65535; count++) CHECK(pgp_submit_info(&session, &info) == PGP_DONE);
+    CHECK(pgp_submit_info(&session, &info) == PGP_LOG_FULL);
+    CHECK(pgp_compact_log(&session, &left_out) == PGP_DONE && left_out == 65535 - 6);
+    CHECK(pgp_submit_info(&session, &info) == PGP_DONE);
+    CHECK(pgp_ask(&session, 1, 0, &view) == PGP_DONE && view.count == 7 && view.verdict == PGP_SERVE);
+    CHECK(pgp_close(&session) == PGP_DONE);
+}
+
+static void places(void) {
+    tell("{\"op\":\"locate\",\"pool\":1,\"name\":\"a\"}");
+    CHECK(has("\"acting\":[1,2]") && has("\"epoch\":3") && has("\"pg\":[1,0]"));
+    pgp_place place;
+    CHECK(locate(1, "a", &place) == PGP_DONE);
+    CHECK(place.epoch == 3 && place.pg == 0 && place.acting_length == 2 && place.acting[0] == 1 && place.acting_primary == 1);
+    CHECK(place.up_length == 0 && place.up_primary == PGP_NO_DEVICE && place.size == 3 && place.min_size == 2);
+    CHECK(locate(1, "a name of more than twenty-four bytes", &place) == PGP_DONE);
+    place.epoch = 77;
+    CHECK(locate(2, "a", &place) == PGP_UNKNOWN_POOL && locate(0, "a", &place) == PGP_BAD_ARGUMENT);
+    CHECK(locate(256, "a", &place) == PGP_BAD_ARGUMENT && locate(1, "", &place) == PGP_BAD_ARGUMENT);
+    CHECK(locate(1, "\xff", &place) == PGP_BAD_ARGUMENT && place.epoch == 77);
+}
+
+static void refusals(void) {
+    pgp_info info = {.pool = 1, .osd = 1, .stamp = 9, .complete = true};
+    CHECK(MADE(pgp_submit_info(&session, &info)) == PGP_FUTURE_STAMP);
+    info.pg = 1;
+    CHECK(MADE(pgp_submit_info(&session, &info)) == PGP_UNKNOWN_GROUP);
+    info.pg = 1024;
+    CHECK(MADE(pgp_submit_info(&session, &info)) == PGP_BAD_ARGUMENT);
+    info.pg = 0;
+    info.slot = 16;
+    CHECK(MADE(pgp_submit_info(&session, &info)) == PGP_BAD_ARGUMENT);
+    info.slot = 0;
+    info.complete = 2;
+    CHECK(MADE(pgp_submit_info(&session, &info)) == PGP_BAD_ARGUMENT);
+    pgp_view view;
+    CHECK(MADE(pgp_ask(&session, 1, 0, &view)) == PGP_DONE && view.count == 6);
+    CHECK(MADE(pgp_ask(&session, 1, 1, &view)) == PGP_ASK_UNKNOWN_GROUP && MADE(pgp_ask(&session, 1, 1024, &view)) == PGP_BAD_ARGUMENT);
+    tell("{\"op\":\"close\"}");
+    CHECK(MADE(pgp_submit_info(&session, &(pgp_info){.pool = 1, .osd = 1})) == PGP_CLOSED);
+}
+
+static void closed(void) {
+    size_t count;
+    pgp_view view;
+    pgp_place place;
+    pgp_member member;
+    CHECK(MADE(pgp_ask(&session, 1, 0, &view)) == PGP_NOT_OPEN && locate(1, "a", &place) == PGP_NOT_OPEN);
+    CHECK(MADE(pgp_probe(&session, 1, 0, &member, 1, &count)) == PGP_NOT_OPEN && count == 0);
+    CHECK(MADE(pgp_submit_info(&session, &(pgp_info){.pool = 1})) == PGP_NOT_OPEN);
+}
+
+// Version 3 is read on request alone.
+static void formats(void) {
+    static const char line[] = "{\"op\":\"inc\",\"v\":3,\"epoch\":1,\"crush\":[{\"id\":-1,\"type\":1,\"alg\":\"straw2\",\"items\":[0],\"weights\":[1]}]}";
+    CHECK(pgp_open_format(&session, 1) == PGP_BAD_ARGUMENT && pgp_open_format(&session, 4) == PGP_BAD_ARGUMENT);
+    CHECK(pgp_close(&session) == PGP_NOT_OPEN);
+    CHECK(MADE(pgp_open_format(&session, 2)) == PGP_DONE && pgp_open_format(&session, 1) == PGP_ALREADY_OPEN);
+    tell(line);
+    CHECK(has("\"key\":\"crush\"") && has("\"refused\":\"BadField\""));
+    CHECK(pgp_close(&session) == PGP_DONE);
+    CHECK(MADE(pgp_open_format(&session, 3)) == PGP_DONE);
+    tell(line);
+    CHECK(has("\"ok\":\"inc\""));
+    CHECK(pgp_close(&session) == PGP_DONE);
+}
+
+static void all(void) {
+    calls = 0;
+    closed();
+    formats();
+    CHECK(MADE(pgp_open(&session)) == PGP_DONE);
+    outage();
+    views();
+    lists();
+    objects();
+    places();
+    refusals();
+    CHECK(pgp_close(&session) == PGP_DONE);
+    closed();
+    CHECK(MADE(pgp_open(&session)) == PGP_DONE);
+    outage();
+    compaction();
+    long_names();
+    CHECK(pgp_close(&session) == PGP_DONE);
+    CHECK(pgp_version() == 100);
+}
+
+int main(int argc, char **argv) {
+    all();
+    long number = argc > 1 && strcmp(argv[1], "refuse") == 0 ? calls : 0;
+    for (refused = 1; refused <= number; refused++) all();
+    refused = 0;
+    if (number == 0) full();
+    printf("%ld allocations\n", number);
+    return 0;
+}
