@@ -158,10 +158,16 @@ class Recorder:
         self.run.wait()
         self.run = self.begin()
 
+    def takes_the_end(self) -> bool:
+        """Whether it has come so far that SIGTERM ends it in order, or has ended."""
+        caught = re.search(r"SigCgt:\t(\w+)", pathlib.Path(f"/proc/{self.run.pid}/status").read_text())
+        return self.run.poll() is not None or caught is not None and bool(int(caught[1], 16) >> signal.SIGTERM - 1 & 1)
+
     def end(self) -> None:
         """Ends it once it has the last map, and holds its maps against the cluster's."""
         last = self.cluster.dump()["epoch"]
         is_there = self.cluster.until(lambda: all(map(os.path.isfile, self.paths(last))) or self.run.poll() is not None)
+        self.cluster.until(self.takes_the_end)
         self.run.terminate()
         if self.run.wait() or not is_there:
             raise Unusable(f"record ended with status {self.run.returncode}, and {'has' if is_there else 'lacks'} the last map")
