@@ -23,7 +23,7 @@ pub struct AnyOf {
 pub struct Sets {
     /// Each in ascending order. Where there are no others, the smaller sets stand first.
     pub sets: Seq<Seq<OsdId>>,
-    /// Whether there may be others: there are more than 16, or there were more than nine devices to choose from. Those that are
-    /// listed have no device in common then, except for devices that each way needs.
+    /// Whether there may be others: there are more than 16, or there were more than nine devices to choose from. If fewer than 16
+    /// are listed then, a device that all of them have is one that each way needs.
     pub more: bool,
 }
