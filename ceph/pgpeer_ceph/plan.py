@@ -27,7 +27,7 @@ Tells from a FOLDER that fetch filled which devices to start so that groups are 
 devices that served them last are down: a small set, each step the one that frees most, and its size beside a number below which no
 set can be. No step declares a device lost. Then it tells which groups stay as they are, and what each waits for. A group that is
 freed hears its members first, and may wait for backfill before it is active. Nothing is started: the steps are for you to take,
-`systemctl start ceph-osd@ID` on the host that is named, or `ceph orch daemon start osd.ID`.
+`systemctl start ceph-osd@ID` on the host that is named, or under cephadm `ceph orch daemon start osd.ID`.
 
 Status 0: the plan was written. Status 2: the command line or the input is wrong.
 """
