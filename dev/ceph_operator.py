@@ -13,6 +13,7 @@ import pathlib
 import random
 import re
 import shutil
+import signal
 import subprocess
 import sys
 import time
@@ -160,8 +161,10 @@ class Recorder:
 
     def takes_the_end(self) -> bool:
         """Whether it has come so far that SIGTERM ends it in order, or has ended."""
+        if self.run.poll() is not None:
+            return True
         caught = re.search(r"SigCgt:\t(\w+)", pathlib.Path(f"/proc/{self.run.pid}/status").read_text())
-        return self.run.poll() is not None or caught is not None and bool(int(caught[1], 16) >> signal.SIGTERM - 1 & 1)
+        return caught is not None and bool(int(caught[1], 16) >> (signal.SIGTERM - 1) & 1)
 
     def end(self) -> None:
         """Ends it once it has the last map, and holds its maps against the cluster's."""
