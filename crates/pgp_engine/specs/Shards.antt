@@ -1,5 +1,5 @@
 -- A shard that reads the feed, and what it does.
-use Rattle.std.specs.Prelude.{◌≡◌, ℕ, ◌+◌, ◌<◌, ◌⊎◌, List, [], length, Option, Some, Bool, true}
+use Rattle.std.specs.Prelude.{◌≡◌, ℕ, ◌+◌, ◌<◌, ◌⊎◌, List, length, Option, true}
 use Rattle.logbook.specs.Pages.{Book}
 use Rattle.pgp_ids.specs.declared.entry.Entry.{Entry}
 use Rattle.pgp_ids.specs.declared.pg_id.PgId.{PgId}
@@ -26,14 +26,12 @@ state_of s = record { front = s.front; shard = s.shard; shards = s.shards; marks
 abbrev pub Serves : Reader → PgId → Type 0
 Serves s pg = is_own s.shard s.shards pg ≡ true
 
--- what a shard keeps: its receipt names the entries that it has read, which its tap has given; its number is that of its state;
--- and where it calls all of its groups worked out, none is marked
-pub record IsReader (feed : Book) (state : Shard) (stored last : Receipt) (number : ℕ) (worked_out : Bool) : Type 0 where
+-- what a shard keeps: its receipt names the entries that it has read, which its tap has given; and its number is that of its state
+pub record IsReader (feed : Book) (state : Shard) (stored last : Receipt) (number : ℕ) : Type 0 where
   pub named : Names feed state.front stored
   pub last_is : feed_of last ≡ feed
   pub seen : IsFrontOf state.front (entries_of last)
   pub number_is : number ≡ state.shard
-  pub none_marked : worked_out ≡ true → state.marks ≡ Some []
 
 -- it is the same shard still, and has read on within this log
 pub record ReadsOn (log : List Entry) (old new : Shard) : Type 0 where

@@ -3,8 +3,8 @@ use std::sync::Wait;
 
 /// What a worker passes in each of its turns. Whoever runs the engine may hold it there, and let it go on.
 pub trait Gate {
-    /// Called under the lock of the shard of this number, with no copy of the feed lent, before the shard reads on. It may
-    /// wait.
+    /// Called under the lock of the shard of this number, with no copy of the feed lent, before the shard reads on or works
+    /// out groups. It may wait.
     fn enter<R: Wait>(&self, rt: &R, shard: usize);
 
     /// Called once the lock is free. It may wait.

@@ -17,8 +17,6 @@ pub struct Shard<J: Naming> {
     tap: Tap,
     /// Where the next entries are read to.
     buffer: EntryBuffer,
-    /// All of its groups are worked out. An entry that is read may mark some of them anew.
-    worked_out: bool,
     of: PhantomData<J>,
 }
 
@@ -31,7 +29,6 @@ impl<J: Naming> Drop for Shard<J> {
             front: _,
             tap: _,
             buffer: _,
-            worked_out: _,
             of: _,
         } = self;
     }
@@ -52,5 +49,5 @@ impl<J: Naming> Model for Shard<J> {
       seen = entries_of (last_of s.tap);
     } };
 
-    ghost invariant = { λ s. IsReader J.feed s.state s.front (last_of s.tap) s.number s.worked_out };
+    ghost invariant = { λ s. IsReader J.feed s.state s.front (last_of s.tap) s.number };
 }

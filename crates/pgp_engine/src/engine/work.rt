@@ -11,10 +11,13 @@ use crate::naming::Naming;
 use pgp_feed::Receipt;
 use std::sync::{MutexGuard, Wait};
 
-/// How many steps a shard takes at most in one turn of a worker: entries that it reads or, in a lull, groups that it works out.
-/// So whoever asks waits for no more of them than these. It bounds no time, since an incremental goes over all groups of the
-/// shard. Where the shard doesn't keep its groups yet, working them out makes all of them first, from all that it has read.
-const STEPS_A_TURN: usize = 64;
+/// How many entries a shard reads at most in one turn of a worker. So whoever asks waits for no more of them than these. It bounds no
+/// time, since an incremental goes over all groups of the shard.
+const ENTRIES_A_TURN: usize = 64;
+
+/// How many groups a shard works out at most in one turn of a worker. Where it doesn't keep its groups yet, the first turn makes
+/// all of them first, from all that it has read.
+const GROUPS_A_TURN: usize = 16;
 
 /// After how many rounds without an entry a lull begins. Between two of them the worker naps.
 const ROUNDS_TO_A_LULL: usize = 8;
@@ -26,8 +29,6 @@ pub(super) struct Stand {
     pub front: Receipt,
     /// That front was closed.
     pub closed: bool,
-    /// None had a group left to work out after its last turn in which there was nothing to read.
-    pub worked_out: bool,
 }
 
 impl<J: Naming> Engine<J> {
@@ -35,10 +36,11 @@ impl<J: Naming> Engine<J> {
     /// read the Close, and answers the receipt of the closed log. There is none where no shard is of this seat. `Memory` and
     /// `NoReader` end the work, and leave the shards as far as they have read.
     ///
-    /// In each of its turns a shard reads a few entries, between the gate's two calls. Between the turns the lock is free. After a
-    /// few rounds in a row without an entry, with a nap after each, it is a lull: from then on, until the next entry, a shard that
-    /// has nothing to read works out a few of its groups anew, and once none is left, the worker sleeps until the next submit. So
-    /// while entries come, nobody works out a group but who asks about it.
+    /// In each round every shard of the seat reads a few entries, in a turn of its own between the gate's two calls. Between the
+    /// turns the lock is free. After a few rounds in a row without an entry, with a nap after each, it is a lull: from then on,
+    /// until the next entry, each round ends with a turn in which one shard works out a few of its groups, the same one until
+    /// none is left there. Once none is left in any, the worker sleeps until the next submit. So while entries come, nobody works
+    /// out a group but who asks about it.
     pub fn work<R: Wait, G: Gate>(
         &self,
         rt: &R,
@@ -55,10 +57,12 @@ impl<J: Naming> Engine<J> {
         }
         let mut read = 0;
         let mut quiet = 0;
+        // The shard whose groups come next. Past the last one, none is left.
+        let mut next = seat;
         for _ in rt.forever() {
-            let is_lull = quiet >= ROUNDS_TO_A_LULL;
-            let rings = self.bell.listen(is_lull);
-            let shortest = self.pass(rt, seat, gate, is_lull)?;
+            let none_left = next >= self.shards.len();
+            let rings = self.bell.listen(none_left);
+            let shortest = self.read_on(rt, seat, gate)?;
             if shortest.closed {
                 return Ok(Some(shortest.front));
             }
@@ -66,72 +70,70 @@ impl<J: Naming> Engine<J> {
             if len != read {
                 read = len;
                 quiet = 0;
-            } else if !is_lull {
+                next = seat;
+            } else if quiet < ROUNDS_TO_A_LULL {
                 quiet += 1;
                 self.bell.nap(rt);
-            } else if shortest.worked_out {
+            } else if none_left {
                 quiet = 0;
+                next = seat;
                 self.bell.sleep(rt, rings);
+            } else if self.renew(rt, next, gate)? {
+                next = next.saturating_add(self.workers);
             }
         }
         unreachable!()
     }
 
-    /// One turn of each shard of the seat. It answers how far they have come. Of fronts of one log the shortest is closed only
-    /// where all are.
-    fn pass<R: Wait, G: Gate>(
-        &self,
-        rt: &R,
-        seat: usize,
-        gate: &G,
-        is_lull: bool,
-    ) -> Result<Stand, AskFault>
+    /// One turn of each shard of the seat, in which it reads on. It answers how far they have come. Of fronts of one log the
+    /// shortest is closed only where all are.
+    fn read_on<R: Wait, G: Gate>(&self, rt: &R, seat: usize, gate: &G) -> Result<Stand, AskFault>
         requires workers { seat < self.now.workers }
         requires shards { seat < self.now.shards }
         ensures stand { IfOk result (IsStand J.feed) }
         ensures err { IfErr result (λ fault. fault_at fault ≡ None) }
     {
         let shards = self.shards.len();
-        let mut shortest = self.turn(rt, seat, gate, is_lull)?;
-        let mut worked_out = shortest.worked_out;
+        let mut shortest = self.read(rt, seat, gate)?;
         for shard in seat + 1..shards {
             if shard % self.workers == seat {
-                let stand = self.turn(rt, shard, gate, is_lull)?;
-                worked_out = worked_out && stand.worked_out;
+                let stand = self.read(rt, shard, gate)?;
                 if stand.front.len() < shortest.front.len() {
                     shortest = stand;
                 }
             }
         }
-        Ok(Stand {
-            worked_out,
-            ..shortest
-        })
+        Ok(shortest)
     }
 
-    /// A turn of the shard's lock, in which it reads on or, in a lull, may work out its groups, by one turn's steps at most.
-    fn turn<R: Wait, G: Gate>(
-        &self,
-        rt: &R,
-        shard: usize,
-        gate: &G,
-        is_lull: bool,
-    ) -> Result<Stand, AskFault>
+    /// A turn of the shard's lock, in which it reads on.
+    fn read<R: Wait, G: Gate>(&self, rt: &R, shard: usize, gate: &G) -> Result<Stand, AskFault>
         requires { shard < self.now.shards }
         ensures stand { IfOk result (IsStand J.feed) }
         ensures err { IfErr result (λ fault. fault_at fault ≡ None) }
     {
         let mut turn = turn_of(rt, self.shards.as_slice(), shard);
         gate.enter(rt, shard);
-        let front = turn.take_turn(STEPS_A_TURN, is_lull);
+        let front = turn.read_some(ENTRIES_A_TURN);
         let closed = turn.is_closed();
-        let worked_out = turn.is_worked_out();
         MutexGuard::unlock(turn);
         gate.left(rt, shard);
         Ok(Stand {
             front: front?,
             closed,
-            worked_out,
         })
+    }
+
+    /// A turn of the shard's lock, in which it works out some of its groups. Whether none was left then.
+    fn renew<R: Wait, G: Gate>(&self, rt: &R, shard: usize, gate: &G) -> Result<bool, AskFault>
+        requires { shard < self.now.shards }
+        ensures err { IfErr result (λ fault. fault_at fault ≡ None) }
+    {
+        let mut turn = turn_of(rt, self.shards.as_slice(), shard);
+        gate.enter(rt, shard);
+        let none_left = turn.renew(GROUPS_A_TURN);
+        MutexGuard::unlock(turn);
+        gate.left(rt, shard);
+        none_left
     }
 }

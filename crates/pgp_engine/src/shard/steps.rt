@@ -43,7 +43,6 @@ impl<J: Naming> Shard<J> {
             front,
             tap,
             buffer: EntryBuffer::new(alloc),
-            worked_out: false,
             of: PhantomData,
         }
     }
@@ -67,7 +66,6 @@ impl<J: Naming> Shard<J> {
         ensures err { IfErr result (λ fault. fault_at fault ≡ None) }
         ensures reads { OnErr result (length self.old.front < length (entries_of target.now)) }
     {
-        self.worked_out = false;
         let read = read_to(&mut self.state, &mut self.tap, &mut self.buffer, target);
         self.front = target.front(self.state.count());
         read
@@ -94,8 +92,8 @@ impl<J: Naming> Shard<J> {
         Ok(front)
     }
 
-    /// Reads at most this many further entries of the log.
-    fn read_some(&mut self, max: usize) -> Result<Receipt, AskFault>
+    /// Reads at most this many further entries of the log, and answers the receipt of what it has read then.
+    pub(crate) fn read_some(&mut self, max: usize) -> Result<Receipt, AskFault>
         ensures on { GoesOn self.old self.new }
         ensures absorbed { OnOk result (HasAbsorbed self.old self.new max) }
         ensures marks { OnOk result (self.new.front ≡ self.old.front → self.new.marks ≡ self.old.marks) }
@@ -109,26 +107,19 @@ impl<J: Naming> Shard<J> {
         Ok(self.front.again())
     }
 
-    /// Works out anew at most this many of its groups that an entry touched, so that the next to ask about them needn't.
+    /// Works out anew at most this many of its groups that an entry touched, so that the next to ask about them needn't. Whether
+    /// none is left then.
     #[tactic(auto, using(crate::proofs::ReadLemmas::none_left))]
-    fn renew(&mut self, max: usize) -> Result<(), AskFault>
+    pub(crate) fn renew(&mut self, max: usize) -> Result<bool, AskFault>
         ensures same { StaysThere self.old self.new }
         ensures marks { OnOk result (AreUnmarked max (state_of self.old) (state_of self.new)) }
+        ensures none { IfOk result (λ none_left. none_left ≡ true → self.new.marks ≡ Some []) }
         ensures err { IfErr result (λ fault. fault_at fault ≡ None) }
         ensures memory { IfErr result (λ fault. fault ≡ Memory) }
         ensures wants { OnErr result (HasInc self.new.front) }
     {
-        self.worked_out = false;
         let left = self.state.renew(max)?;
-        self.worked_out = left == 0;
-        Ok(())
-    }
-
-    /// None of its groups is left to work out. It says so only after a turn in which there was nothing to read.
-    pub(crate) fn is_worked_out(&self) -> bool
-        ensures { result ≡ true → self.now.marks ≡ Some [] }
-    {
-        self.worked_out
+        Ok(left == 0)
     }
 
     /// Its number.
@@ -145,19 +136,6 @@ impl<J: Naming> Shard<J> {
         self.state.is_closed()
     }
 
-    /// A worker's turn: it reads at most this many further entries of the log. Where there are none, it works out anew as many of its
-    /// groups, in a lull.
-    pub(crate) fn take_turn(&mut self, max: usize, is_lull: bool) -> Result<Receipt, AskFault>
-        ensures named { IfOk result (Names J.feed self.new.front) }
-        ensures err { IfErr result (λ fault. fault_at fault ≡ None) }
-    {
-        if is_lull {
-            self.absorb_some(max)
-        } else {
-            self.read_some(max)
-        }
-    }
-
     /// What the shard has read says of one of its groups.
     fn view(&mut self, pg: PgId) -> Result<Answer, AskFault>
         requires serves { Serves self.old pg }
@@ -170,7 +148,6 @@ impl<J: Naming> Shard<J> {
         ensures wants { result ≡ Err Memory → HasInc self.new.front }
     {
         let at = self.front.again();
-        self.worked_out = false;
         match self.state.ask(pg) {
             Ok(view) => Ok(Answer { view, at }),
             Err(AskRefusal::UnknownGroup) => Err(AskFault::UnknownGroup { at }),

@@ -20,9 +20,13 @@ use std::time::{Clock, Duration};
 /// After how many rounds without an entry a lull begins.
 const QUIET: usize = 8;
 
-/// How many turns one worker takes with both shards until nothing is left to do. The second shard reads the map in one turn, and
-/// works out its 128 groups in two more, once a lull has begun. The first has nothing to do in these rounds.
-const NEEDED: usize = (1 + QUIET + 2) * SHARDS;
+/// How many groups a turn works out.
+const A_TURN: usize = 16;
+
+/// How many turns one worker takes with both shards until nothing is left to do. In each round both of them read: the map in one
+/// round, nothing in those before the lull. Then each round has one turn more, which works out groups: one turn finds none in the
+/// first shard, and the second shard's groups take the others.
+const NEEDED: usize = (1 + QUIET) * SHARDS + (1 + GROUPS / A_TURN) * (SHARDS + 1);
 
 /// How many groups each shard has.
 const GROUPS: usize = 128;
@@ -57,8 +61,8 @@ impl CountingGate {
     }
 }
 
-/// One worker serves both shards, of which the first has worked out all of its groups before. Once it has taken the turns that are needed, though nothing is submitted after the map, the log
-/// is closed.
+/// One worker serves both shards, of which the first has worked out all of its groups before. Once it has taken the turns that
+/// are needed, though nothing is submitted after the map, the log is closed.
 pub fn work_out<J: Naming + Send + Sync, R: Threads + Wait + Abort + Clock + AllocGlobal + Sync>(
     rt: &R,
     desk: &Desk<J>,

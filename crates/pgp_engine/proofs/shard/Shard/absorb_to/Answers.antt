@@ -20,7 +20,6 @@ invariant_of-self g c = record {
   last_is = sym c.read_to-read.ensures.later.feed ∙ c.self.invariant.last_is;
   seen = c.read_to-read.ensures.seen;
   number_is = c.self.invariant.number_is ∙ sym c.read_to-read.ensures.on.shard_is;
-  none_marked = λ is. absurd (cc is);
 }
 
 pub returns-clause-legal : goal.returns-clause-legal

@@ -17,5 +17,4 @@ invariant_of-result g c =
       last_is = ap feed_of (sym c.newest.ensures.last) ∙ of;
       seen = subst (λ (l : List Entry). IsFrontOf l (entries_of last)) (sym none) (front_none (entries_of last));
       number_is = sym (ap (λ (s : Shard). s.shard) c.start.ensures);
-      none_marked = λ is. absurd (cc is);
     }
