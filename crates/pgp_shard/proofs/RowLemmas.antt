@@ -1,5 +1,6 @@
 -- Rows of groups, and the incrementals by which they are passed by.
 use Rattle.pgp_shard.proofs.Common.{may_concern, may_meet, changes_placement, ◌≡◌, ℕ, ◌+◌, ◌<◌, List, [], ◌∷◌, ◌++◌, Bool, true, false, ◌&&◌, not, ◌||◌, Option, Some, length, map, set, nat_eq, refl, sym, ap, ◌∙◌, subst, inl, inr, ◌⊎◌, is_some, arith, eq-eqb, length-append, list_any, option_map, option_map_or, slice_get, or-true, cases_Bool, cases_eq, cases_lt, true≢false, not-false, not-true, length-set, same_Some, slice_get_within, and3_parts, or3_parts, PoolSizes, any-mapped, get-append, get-last, get-set_other, get-set_same, Entry, DeviceWeight, Incremental, PgId, pool, temp, OsdMap, then_with, may_place_elsewhere, raw_places, raw_set, switches_any, weighed, lighter-elsewhere, or3_false, unplaced, incs_of, group_in, changed_devices, changes_pool, changes_temp, has_osd, has_to_do_with, may_lie_on, moves_all, names, turned_devices, MapBefore, AreRowsOf, IsChangesOf, IsKeptOf, IsRowOf, IsStep, lacks_view, Covers, CoversStill, makes_heavier, only_lightens, changes_no_pool, changes_placements, KeptGroup, OsdFilter, Row, may_move, is_touched}
+use Rattle.std.proofs.lemmas.Option.{slice_get_cases}
 use Rattle.pgp_ids.specs.declared.entry.Entry.TheVariants as entry
 use Rattle.pgp_shard.specs.declared.row.Changes.{Changes}
 use Rattle.pgp_shard.proofs.OsdFilterLemmas.{shared}
@@ -43,6 +44,18 @@ rows-push rows groups row kept is are = record {
       (λ n x was there. are.each n x k was (sym (get-append groups (kept ∷ []) n (omega (arith, slice_get_within rows n x was, are.long))) ∙ there))
       (λ there. subst (IsRowOf row) (same_Some kept k (sym (get-last groups kept) ∙ ap (slice_get (groups ++ kept ∷ [])) (sym are.long) ∙ there)) is) j r at;
 }
+
+-- what is kept at the place of a row, which says whether it is marked
+pub record IsBesideRow (groups : List KeptGroup) (place : ℕ) (row : Row) : Type 0 where
+  pub kept : KeptGroup
+  pub at : slice_get groups place ≡ Some kept
+  pub marked : row.marked ≡ lacks_view kept
+
+pub beside-row : (rows : List Row) (groups : List KeptGroup) (place : ℕ) (row : Row) → AreRowsOf rows groups → slice_get rows place ≡ Some row → IsBesideRow groups place row
+beside-row rows groups place row are is = elim (slice_get_cases groups place).1 [
+  | inl there ↦ record { kept = there.0; at = there.2; marked = (are.each place row there.0 is there.2).marked }
+  | inr past ↦ absurd (omega (arith, past.0, slice_get_within rows place row is, are.long))
+]
 
 -- ---- the row of a group
 

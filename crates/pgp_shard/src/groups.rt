@@ -302,8 +302,8 @@ impl Groups {
     {
         let mut more = max;
         let mut left = 0;
-        for place in 0..self.kept.len() {
-            if self.kept[place].is_marked() {
+        for place in 0..self.rows.len() {
+            if self.rows[place].marked {
                 if more > 0 {
                     self.renew_at(place, count)?;
                     more -= 1;

@@ -1,10 +1,11 @@
-use Rattle.pgp_shard.proofs.Common.{◌≡◌, ◌<◌, List, Some, length, rules, take, refl, sym, ap, ◌∙◌, arith, slice_get, length-set, take_more_set, slice_get_read, get-set_other, lacks_view, marks_in, KeptGroup}
+use Rattle.pgp_shard.proofs.Common.{◌≡◌, ◌<◌, List, Some, length, rules, take, refl, sym, ap, ◌∙◌, arith, slice_get, length-set, take_more_set, slice_get_read, get-set_other, lacks_view, marks_in, Groups, KeptGroup, Row}
 use Rattle.pgp_shard.proofs.KeptLemmas.{kept-inc}
 use Rattle.pgp_shard.proofs.MarksLemmas.{pg_of, renewing-leaves, renewing-passes, renewing-renews, renewing-starts, some-marked, unmarked_by}
+use Rattle.pgp_shard.proofs.RowLemmas.{beside-row}
 use Rattle.pgp_shard.proofs.PassingLemmas.{front-fails, front-passes, passing-fails}
 use Rattle.pgp_log.proofs.SharedLemmas.{on_err}
 use Rattle.pgp_shard.proofs.groups.Groups.renew.Goals as goal
-use Rattle.pgp_shard.proofs.groups.Groups.renew.Goals.{then-is_marked+then-more-gt0+in_ok-renew_at, then-is_marked+else-more-gt0, else-is_marked}
+use Rattle.pgp_shard.proofs.groups.Groups.renew.Goals.{then-index+then-more-gt0+in_ok-renew_at, then-index+else-more-gt0, else-index}
 
 pub loop-place-init : goal.loop-place-init
 loop-place-init c = record { places = c.requires; long = refl; is = λ owner log are long. are; rest = λ at from. refl; renewing = renewing-starts c.args.max }
@@ -12,15 +13,19 @@ loop-place-init c = record { places = c.requires; long = refl; is = λ owner log
 pub loop-place-preserved : goal.loop-place-preserved
 loop-place-preserved c =
     let first : List KeptGroup = c.args.self.now.kept.items in
-    let groups : List KeptGroup = c.loop-place.self.kept.items in
+    let now : Groups = c.loop-place.self in
+    let groups : List KeptGroup = now.kept.items in
     let i = c.loop-place.place in
     let so_far = c.loop-place.invariant in
-    let item : KeptGroup = c.index.result.now in
-    let within : i < length groups = omega (arith, c.loop-place-test.true, c.len-place-end.ensures, c.args.self.now.kept.ok.0, so_far.long) in
-    let at : slice_get groups i ≡ Some item = slice_get_read groups (length groups) i item refl within c.index.ensures in
+    let row : Row = c.index.result.now in
+    let long : length now.rows.items ≡ length groups = so_far.places.rows.long in
+    let within : i < length now.rows.items = omega (arith, c.loop-place-test.true, c.len-place-end.ensures, c.args.self.now.rows.ok.0, c.requires.rows.long, so_far.long, long) in
+    let beside = beside-row now.rows.items groups i row so_far.places.rows (slice_get_read now.rows.items (length now.rows.items) i row refl within c.index.ensures) in
+    let item : KeptGroup = beside.kept in
+    let at : slice_get groups i ≡ Some item = beside.at in
     let was : slice_get first i ≡ Some item = sym (so_far.rest i (omega arith)) ∙ at in
-    elim c.if-is_marked.branch [
-      | then-is_marked+then-more-gt0+in_ok-renew_at w ↦
+    elim c.if-index.branch [
+      | then-index+then-more-gt0+in_ok-renew_at w ↦
           let one = w.in_ok-renew_at.ensures.one in
           rw (w.self-is, w.more-is, w.left-is) (record {
             places = w.in_ok-renew_at.ensures.at;
@@ -28,11 +33,11 @@ loop-place-preserved c =
             is = λ owner log are long. w.in_ok-renew_at.ensures.is owner log (so_far.is owner log are long) long;
             rest = λ place from. ap (λ (l : List KeptGroup). slice_get l place) one.kept ∙ get-set_other groups i place one.after (λ same. omega arith) ∙ so_far.rest place (omega arith);
             renewing =
-                rw (front-passes lacks_view pg_of first i item was (sym c.is_marked.ensures ∙ w.if-is_marked.true), one.kept, take_more_set groups i one.after within, passing-fails lacks_view pg_of (take i groups) one.after (unmarked_by one.after.view one.view))
+                rw (front-passes lacks_view pg_of first i item was (sym beside.marked ∙ w.if-index.true), one.kept, take_more_set groups i one.after (omega (arith, within, long)), passing-fails lacks_view pg_of (take i groups) one.after (unmarked_by one.after.view one.view))
                 (renewing-renews c.args.max i c.loop-place.more c.loop-place.left _ _ item.pg w.if-more-gt0.true so_far.renewing);
           })
-      | then-is_marked+else-more-gt0 w ↦
-          let passes = sym c.is_marked.ensures ∙ w.if-is_marked.true in
+      | then-index+else-more-gt0 w ↦
+          let passes = sym beside.marked ∙ w.if-index.true in
           rw (w.self-is, w.more-is, w.left-is) (record {
             places = so_far.places;
             long = so_far.long;
@@ -41,8 +46,8 @@ loop-place-preserved c =
             renewing = rw (front-passes lacks_view pg_of first i item was passes, front-passes lacks_view pg_of groups i item at passes)
                 (renewing-leaves c.args.max i c.loop-place.more c.loop-place.left _ _ item.pg (omega (arith, w.if-more-gt0.false)) so_far.renewing);
           })
-      | else-is_marked w ↦
-          let fails = sym c.is_marked.ensures ∙ w.if-is_marked.false in
+      | else-index w ↦
+          let fails = sym beside.marked ∙ w.if-index.false in
           rw (w.self-is, w.more-is, w.left-is) (record {
             places = so_far.places;
             long = so_far.long;
