@@ -1,5 +1,5 @@
 -- Lists of groups of which one changes, or with one more, and the table of their places.
-use Rattle.pgp_shard.proofs.Common.{◌≡◌, ℕ, ◌<◌, List, [], ◌∷◌, ◌++◌, Bool, true, false, ◌||◌, cond, Option, Some, None, is_some, length, get_or, set, refl, sym, ap, ◌∙◌, subst, arith, eq-eqb, list_any, option_map, slice_get, map-set_same, false_from_ne_true, true_from_ne_false, true≢false, or-false, or-true, with_item, length-map, map-append, All-get_or, All-push, All-set, list_any-append, get_or_from_slice_get, slice_get_read, same_Some, slice_get-map, slice_get_within, none-some, get-append, get-last, none-at, none-each, Entry, PgId, is_same_group, OsdMap, AreAtPlaces, AreGroupsOf, keeps, AreAllMarked, AreRowsOf, IsKeptOf, IsRowOf, ids_of, lacks_view, is_among, Groups, KeptGroup, Row, same_group}
+use Rattle.pgp_shard.proofs.Common.{◌≡◌, ℕ, ◌<◌, List, [], ◌∷◌, ◌++◌, Bool, true, false, ◌||◌, cond, Option, Some, None, is_some, length, get_or, set, refl, sym, ap, ◌∙◌, subst, arith, list_any, option_map, slice_get, map-set_same, false_from_ne_true, true_from_ne_false, true≢false, or-false, or-true, with_item, length-map, map-append, All-get_or, All-push, All-set, list_any-append, get_or_from_slice_get, slice_get_read, same_Some, slice_get-map, slice_get_within, none-some, get-append, get-last, none-at, none-each, Entry, PgId, is_same_group, OsdMap, AreAtPlaces, AreGroupsOf, keeps, AreAllMarked, AreRowsOf, IsKeptOf, IsRowOf, ids_of, lacks_view, is_among, Groups, KeptGroup, Row, same_group}
 use Rattle.std.specs.HashMap as hash
 use Rattle.pgp_log.proofs.TakeLemmas.{same-self}
 use Rattle.pgp_shard.proofs.RowLemmas.{each-push, each-set, rows-push, rows-set}
