@@ -16,8 +16,8 @@ use Rattle.pgp_core.specs.Line.{KeptBy, HoldsLine}
 use Rattle.pgp_core.specs.WrittenFor.{PutsText, PutsLine, MayLack}
 use Rattle.pgp_core.specs.declared.line.Fate.TheVariants.{Kept, TooLong, NoMemory}
 use Rattle.pgp_core.specs.declared.line.LineBuffer.{LineBuffer}
-use Rattle.pgp_core.specs.declared.answerer.NoReply.{NoReply}
-use Rattle.pgp_core.specs.declared.answerer.NoReply.TheVariants as why
+use Rattle.pgp_core.specs.declared.answer.NoReply.{NoReply}
+use Rattle.pgp_core.specs.declared.answer.NoReply.TheVariants as why
 use Rattle.pgp_core.proofs.WrittenLemmas.{by-itself}
 
 pub puts-blank : (alone : Bool) (format : Format) (log : List Entry) (text line : List ℕ) → is_blank line ≡ true → PutsLine alone format log log line text text []

@@ -1,5 +1,5 @@
 -- What a reply says of the log.
-use Rattle.std.proofs.Common.{◌≡◌, ℕ, List, [], ◌∷◌, ◌++◌, length, Bool, true, false, Option, Some, None, option_map, Result, Ok, Err, OnErr, OnOk, IsOk, inl, inr, refl, subst, sym, ap, ap₂, ◌∙◌}
+use Rattle.std.proofs.Common.{◌≡◌, ℕ, List, [], ◌∷◌, ◌++◌, length, Bool, true, false, Option, Some, None, option_map, Result, Ok, Err, OnErr, IsOk, inl, inr, refl, subst, sym, ap, ap₂, ◌∙◌}
 use Rattle.std.specs.Result.{result_or}
 use Rattle.std.specs.Prelude.{IfSome}
 use Rattle.std.proofs.lemmas.Bool.{cases_Bool}
@@ -43,11 +43,6 @@ stays-unless-put alone before after command reply (Err lost) fault replies sure 
       let same : after ≡ replies.by = replies.log ∙ stays replies.by command (sym (ap says_accepted replies.is) ∙ other) in
       subst (MayAnswerBy alone before) (sym same) replies.may
 ]
-
--- where no other fault came in place of its own, a call has succeeded
-pub ok_or : {T E F : Type 0} (put : Result T E) (fault : F) (P : Type 0) → OnOk put P → OnOk (result_or put (Err fault)) P
-ok_or (Ok done) fault P holds = holds
-ok_or (Err lost) fault P holds = tt
 
 pub puts-reply : (alone : Bool) (before after : List Entry) (command : Command) (reply : Reply) (old new : List ℕ) → Replies alone before after command reply
     → new ≡ old ++ (reply_text reply ++ 10 ∷ []) → PutsReply alone before after command old new

@@ -12,8 +12,8 @@ use Rattle.pgp_core.specs.Lines.{is_blank}
 use Rattle.pgp_core.specs.Script.{longest_line}
 use Rattle.pgp_core.specs.declared.want.Want.{Want}
 use Rattle.pgp_core.specs.declared.want.Want.TheVariants as want
-use Rattle.pgp_core.specs.declared.answerer.NoReply.{NoReply}
-use Rattle.pgp_core.specs.declared.answerer.NoReply.TheVariants.{Memory, Gone}
+use Rattle.pgp_core.specs.declared.answer.NoReply.{NoReply}
+use Rattle.pgp_core.specs.declared.answer.NoReply.TheVariants.{Memory, Gone}
 
 -- an entry where it submits one, else its line
 abbrev pub want_of : Command → Want

@@ -10,8 +10,8 @@ use Rattle.pgp_core.specs.Answer.{reply_of, log_after, line_text, line_log}
 use Rattle.pgp_core.specs.Answerer.{MayAnswerBy}
 use Rattle.pgp_core.specs.Script.{MayMeet, answer, log_past, longest_line}
 use Rattle.pgp_core.specs.declared.want.Want.{Want}
-use Rattle.pgp_core.specs.declared.answerer.NoReply.{NoReply}
-use Rattle.pgp_core.specs.declared.answerer.NoReply.TheVariants.{Memory, Gone}
+use Rattle.pgp_core.specs.declared.answer.NoReply.{NoReply}
+use Rattle.pgp_core.specs.declared.answer.NoReply.TheVariants.{Memory, Gone}
 
 -- the answer to a line that has this fault was put behind the text
 abbrev pub PutsFault : Option LineFault → List ℕ → List ℕ → Type 0

@@ -1,25 +1,125 @@
-//! The answer to a line, as text.
-ghost use Rattle.std.specs.Prelude.{◌≡◌, ◌≢◌, ◌≤◌, ◌+◌, ◌++◌, ◌∷◌, [], length, take, option_copied, option_map, vec_len, vec_capacity, true, false, IsOk, IfErr, OnOk, OnErr};
-ghost use Rattle.pgp_lines.specs.Command.{IsInRange};
-ghost use Rattle.pgp_text.specs.Reply.{reply_text};
+//! The answer to a line, by the reply to its command, whoever gives that.
+
+ghost use Rattle.std.specs.Prelude.{◌≡◌, ◌≢◌, ◌≤◌, ◌+◌, ◌++◌, ◌∷◌, [], Bool, List, length, take, option_copied, option_map, vec_len, vec_capacity, true, false, IsOk, IfOk, IfErr, OnOk, OnErr};
+ghost use Rattle.pgp_ids.specs.declared.entry.Entry.{Entry as AnyEntry};
 ghost use Rattle.pgp_group.specs.Touched.{view_at};
-ghost use Rattle.pgp_core.specs.Answer.{asked_reply};
-ghost use Rattle.pgp_core.specs.Answerer.{MayAnswerBy, says_accepted};
+ghost use Rattle.pgp_lines.specs.Command.{IsInRange};
+ghost use Rattle.pgp_lines.specs.declared.command.Command.TheVariants.{Ask, Locate, Submit};
+ghost use Rattle.pgp_lines.specs.LineFault.{line_fault_of};
+ghost use Rattle.pgp_text.specs.Reply.{reply_text};
+ghost use Rattle.pgp_core.specs.Answer.{asked_reply, traced_reply};
+ghost use Rattle.pgp_core.specs.Answerer.{MayAnswerBy, Replies, says_accepted};
 ghost use Rattle.pgp_core.specs.Lines.{is_blank};
 ghost use Rattle.pgp_core.specs.Script.{longest_line};
+ghost use Rattle.pgp_core.specs.Wants.{LacksReply, MayFindNone};
 ghost use Rattle.pgp_core.specs.WrittenFor.{PutsFault, PutsReply, PutsText, MayLack};
-ghost use Rattle.pgp_lines.specs.LineFault.{line_fault_of};
-ghost use Rattle.pgp_core.specs.Wants.{LacksReply, want_of};
 
 use super::accepted::{LONGEST_ACCEPTED, put_accepted};
-use super::answerer::{Answerer, NoReply};
 use super::codec::Codec;
-use super::replies::asked_reply;
+use super::history::history;
 use super::want::Want;
-use pgp_ids::{Epoch, PgId, TextFault, View};
-use pgp_lines::Command;
+use pgp_code::AnyCode;
+use pgp_ids::{
+    AskRefusal, Entry, Epoch, EpochState, ObjectName, PgId, PoolId, PoolKind, Seq, TextFault, View,
+};
+use pgp_lines::{Command, MAX_EPOCHS};
 use pgp_text::{LineRefusal, Reply, ReplyWriter};
 use std::alloc::{AllocError, Global};
+
+/// Why a command has no reply, and its line no answer.
+#[derive(Clone, Copy)]
+pub enum NoReply {
+    /// There was no memory for this.
+    Memory(Want),
+    /// There is nobody any more to answer it.
+    Gone,
+}
+
+/// There was no memory for a line, or for the answer to it.
+impl From<AllocError> for NoReply {
+    ghost use Rattle.std.specs.Prelude.{◌≡◌};
+    ghost use Rattle.pgp_core.specs.declared.answer.NoReply.TheVariants.{Memory};
+    ghost use Rattle.pgp_core.specs.declared.want.Want.TheVariants.{Line};
+
+    ghost from_gives = { λ _ why. why ≡ Memory Line };
+
+    fn from(_error: AllocError) -> NoReply {
+        NoReply::Memory(Want::Line)
+    }
+}
+
+/// Who answers the commands of a script: it stands for a log, to which its commands add.
+pub trait Answerer {
+    // Nobody else adds to the log.
+    ghost alone: { Bool };
+
+    // The log for which it stands.
+    ghost log: { Self → List AnyEntry };
+
+    /// The reply to an entry. Where the log takes it, the log has it from now on; where there is no reply, it adds nothing. Where
+    /// nobody else adds to the log, out of memory never comes in place of a refusal that is found without memory. `Gone` comes
+    /// only where others do.
+    fn reply_to_entry(&mut self, entry: Entry) -> Result<Reply, NoReply>
+        ensures reply { IfOk result (λ reply. Replies alone (log self.old) (log self.new) (Submit entry) reply) }
+        ensures kept { OnErr result (MayAnswerBy alone (log self.old) (log self.new)) }
+        ensures lacks { IfErr result (LacksReply alone (Submit entry)) }
+        ensures memory { OnErr result (alone ≡ true → MayFindNone (log self.old) (Submit entry)) };
+
+    /// The reply to the question where an object lies. Where nobody else adds to the log, there always is one.
+    fn reply_to_locate(&mut self, pool: PoolId, name: &ObjectName) -> Result<Reply, NoReply>
+        ensures reply { IfOk result (λ reply. Replies alone (log self.old) (log self.new) (Locate pool name.now) reply) }
+        ensures kept { OnErr result (MayAnswerBy alone (log self.old) (log self.new)) }
+        ensures lacks { IfErr result (LacksReply alone (Locate pool name.now)) }
+        ensures memory { OnErr result (alone ≡ true → MayFindNone (log self.old) (Locate pool name.now)) };
+
+    /// Puts the reply to a question about a group behind the text, with a line feed. One who keeps what it says writes that from
+    /// where it lies.
+    fn put_asked(
+        &mut self,
+        alloc: Global,
+        writer: &mut ReplyWriter,
+        pg: PgId,
+        text: &mut Vec<u8>,
+    ) -> Result<(), NoReply>
+        ensures ok { OnOk result (PutsReply alone (log self.old) (log self.new) (Ask pg) text.old.items text.new.items) }
+        ensures text { OnErr result (text.new.items ≡ text.old.items) }
+        ensures kept { OnErr result (MayAnswerBy alone (log self.old) (log self.new)) }
+        ensures lacks { IfErr result (LacksReply alone (Ask pg)) };
+}
+
+/// The reply to a question about a group of which this is said.
+pub fn asked_reply(pg: PgId, view: Option<View>) -> Reply
+    ensures { result ≡ asked_reply pg view }
+{
+    match view {
+        Some(view) => Reply::Asked(pg, view),
+        None => Reply::Refused(LineRefusal::Ask(AskRefusal::UnknownGroup)),
+    }
+}
+
+/// The reply to a trace of a group whose pool is of this kind: its intervals in these epochs.
+pub fn traced_reply(
+    alloc: Global,
+    kind: PoolKind,
+    epochs: Seq<EpochState>,
+) -> Result<Reply, AllocError>
+    requires { length epochs ≤ MAX_EPOCHS }
+    ensures { IfOk result (λ reply. reply ≡ traced_reply kind epochs) }
+{
+    let mut states = epochs.into_vec().into_iter();
+    let Some(opening) = states.next() else {
+        return Ok(Reply::Traced {
+            first: Epoch::new(1),
+            past: Seq::new(alloc),
+        });
+    };
+    let history = history(alloc, AnyCode::of_pool(kind), opening, states)?;
+    let (first, _) = history.current();
+    Ok(Reply::Traced {
+        first,
+        past: Seq::from_vec(history.past(alloc)?),
+    })
+}
 
 /// Puts the answer to a line that isn't blank and not too long behind the text, with a line feed.
 ///
@@ -46,11 +146,7 @@ pub fn answer_line<A: Answerer>(
     }
 }
 
-/// Puts the answerer's reply to a command that was read behind the text, with a line feed. A question about a group the answerer
-/// puts itself.
-///
-/// Before the answerer is asked for any other reply, there is room for the answer to an entry that is taken: so that answer can't
-/// fail once the log has the entry.
+/// Puts the reply to a command that was read behind the text, with a line feed.
 fn answer_command<A: Answerer>(
     alloc: Global,
     writer: &mut ReplyWriter,
@@ -64,24 +160,40 @@ fn answer_command<A: Answerer>(
     ensures text { OnErr result (text.new.items ≡ text.old.items) }
     ensures log { OnErr result (MayAnswerBy A.alone (A.log answerer.old) (A.log answerer.new)) }
 {
-    if let Command::Ask(pg) = &command {
-        return answerer.put_asked(alloc, writer, *pg, text);
+    match command {
+        Command::Submit(entry) => answer_entry(alloc, writer, entry, answerer, text),
+        Command::Ask(pg) => answerer.put_asked(alloc, writer, pg, text),
+        Command::Locate { pool, name } => {
+            let reply = answerer.reply_to_locate(pool, &name)?;
+            Ok(put_reply(alloc, writer, &reply, text)?)
+        }
+        Command::Trace { code, epochs } => {
+            let reply = traced_reply(alloc, code, epochs)?;
+            Ok(put_reply(alloc, writer, &reply, text)?)
+        }
     }
-    let want = want_of(&command);
-    text.reserve(LONGEST_ACCEPTED)
-        .or(Err(NoReply::Memory(want)))?;
-    let reply = answerer.reply(alloc, command)?;
-    put_reply(alloc, writer, &reply, text).or(Err(NoReply::Memory(want)))
 }
 
-/// What a command has no memory for, where it is out of memory.
-fn want_of(command: &Command) -> Want
-    ensures { result ≡ want_of command.now }
+/// Puts the reply to an entry behind the text, with a line feed.
+///
+/// Before the answerer is told the entry, there is room for the answer to one that is taken: so that answer can't fail once the
+/// log has the entry.
+fn answer_entry<A: Answerer>(
+    alloc: Global,
+    writer: &mut ReplyWriter,
+    entry: Entry,
+    answerer: &mut A,
+    text: &mut Vec<u8>,
+) -> Result<(), NoReply>
+    ensures ok { OnOk result (PutsReply A.alone (A.log answerer.old) (A.log answerer.new) (Submit entry) text.old.items text.new.items) }
+    ensures lacks { IfErr result (LacksReply A.alone (Submit entry)) }
+    ensures text { OnErr result (text.new.items ≡ text.old.items) }
+    ensures log { OnErr result (MayAnswerBy A.alone (A.log answerer.old) (A.log answerer.new)) }
 {
-    match command {
-        Command::Submit(_) => Want::Entry,
-        Command::Ask(_) | Command::Locate { .. } | Command::Trace { .. } => Want::Line,
-    }
+    text.reserve(LONGEST_ACCEPTED)
+        .or(Err(NoReply::Memory(Want::Entry)))?;
+    let reply = answerer.reply_to_entry(entry)?;
+    put_reply(alloc, writer, &reply, text).or(Err(NoReply::Memory(Want::Entry)))
 }
 
 /// Puts the answer to a line that has this fault behind the text, with a line feed.

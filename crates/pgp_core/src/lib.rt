@@ -6,7 +6,6 @@
 
 mod accepted;
 mod answer;
-mod answerer;
 mod codec;
 mod fault;
 mod history;
@@ -16,14 +15,13 @@ mod line;
 mod log;
 mod outcome;
 mod output;
-mod replies;
 mod script;
 mod session;
 mod streams;
 mod want;
 mod whole;
 
-pub use answerer::{Answerer, NoReply};
+pub use answer::{Answerer, NoReply, asked_reply, put_reply};
 pub use fault::ScriptFault;
 pub use input::{Bounds, SCRIPT_BOUNDS, split_line};
 pub use line::{LONGEST_LINE, all_blank};
@@ -31,7 +29,6 @@ pub use log::Log;
 pub use outcome::LineOutcome;
 pub use output::{WriteFault, pass_on};
 pub use pgp_lines::Format;
-pub use replies::{asked_reply, traced_reply};
 pub use script::{answer_script, run_script, run_script_within};
 pub use session::Session;
 pub use streams::{Sink, Source};

@@ -7,8 +7,7 @@ ghost use Rattle.pgp_core.specs.Lines.{is_blank};
 ghost use Rattle.pgp_core.specs.Script.{longest_line, want_text};
 ghost use Rattle.pgp_core.specs.WrittenFor.{IsLeft, PutsLine};
 
-use super::answer::answer_line;
-use super::answerer::{Answerer, NoReply};
+use super::answer::{Answerer, NoReply, answer_line};
 use super::codec::Codec;
 use super::want::Want;
 use std::alloc::Global;

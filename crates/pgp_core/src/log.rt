@@ -15,12 +15,9 @@ ghost use Rattle.pgp_shard.specs.Shard.{HasReadSame, is_marked, is_own};
 ghost use Rattle.pgp_core.specs.Answer.{located_reply, log_with, submitted_reply};
 ghost use Rattle.pgp_core.specs.Wants.{MayFindNone};
 
-use super::answer::put_view;
-use super::answerer::{Answerer, NoReply};
-use super::replies::{asked_reply, traced_reply};
+use super::answer::{Answerer, NoReply, put_view};
 use super::want::Want;
 use pgp_ids::{AskRefusal, Entry, LocateRefusal, ObjectName, PgId, PoolId, Refusal, View};
-use pgp_lines::Command;
 use pgp_log::{JudgedLog, RawSets};
 use pgp_map::OsdMap;
 use pgp_shard::ShardState;
@@ -164,13 +161,12 @@ impl Answerer for Log {
 
     ghost log = { λ log. log };
 
-    fn reply(&mut self, alloc: Global, command: Command) -> Result<Reply, NoReply> {
-        match command {
-            Command::Submit(entry) => self.submit(entry).or(Err(NoReply::Memory(Want::Entry))),
-            Command::Ask(pg) => Ok(asked_reply(pg, self.ask(pg)?)),
-            Command::Locate { pool, name } => Ok(self.locate(pool, &name)),
-            Command::Trace { code, epochs } => Ok(traced_reply(alloc, code, epochs)?),
-        }
+    fn reply_to_entry(&mut self, entry: Entry) -> Result<Reply, NoReply> {
+        self.submit(entry).or(Err(NoReply::Memory(Want::Entry)))
+    }
+
+    fn reply_to_locate(&mut self, pool: PoolId, name: &ObjectName) -> Result<Reply, NoReply> {
+        Ok(self.locate(pool, name))
     }
 
     /// It is written from where the shard keeps the view.

@@ -10,7 +10,7 @@ ghost use Rattle.pgp_core.specs.Account.{account, ReadsFailed, WritesFailed, Wri
 ghost use Rattle.pgp_core.specs.Run.{AllAnswered, Stopped, bounds_of, script_bounds};
 ghost use Rattle.pgp_core.specs.Telling.{AreAnswered, RunStart, IsAfterBytes, IsAnsweredWhole, IsStopped, StoppedAtLast, WentBy, StopsIn, Reads, Stops, RanToEnd, WasStopped, run_start};
 
-use super::answerer::Answerer;
+use super::answer::Answerer;
 use super::codec::Codec;
 use super::fault::ScriptFault;
 use super::input::{Bounds, Input, SCRIPT_BOUNDS, split_line};

@@ -8,8 +8,7 @@ ghost use Rattle.pgp_core.specs.Script.{MayMeet, answer, log_past};
 ghost use Rattle.pgp_core.specs.Session.{LogAndAnswer, last_text, log_in, met_by, reply_in, view_in};
 ghost use Rattle.pgp_core.specs.Wants.{MayFindNone};
 
-use super::answer::answer_line;
-use super::answerer::NoReply;
+use super::answer::{NoReply, answer_line};
 use super::codec::Codec;
 use super::line::{LONGEST_LINE, all_blank, long_line, want_line};
 use super::log::Log;

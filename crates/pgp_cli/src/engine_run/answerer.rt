@@ -1,18 +1,17 @@
 //! The replies of an engine to commands.
-ghost use Rattle.std.specs.Prelude.{◌≡◌, [], false, IfOk, IfErr, OnErr};
-ghost use Rattle.pgp_lines.specs.declared.command.Command.TheVariants.{Submit, Ask, Locate};
+ghost use Rattle.std.specs.Prelude.{◌≡◌, [], false, IfOk, IfErr};
+ghost use Rattle.pgp_lines.specs.declared.command.Command.TheVariants.{Ask};
 ghost use Rattle.pgp_group.specs.View.{scratch};
-ghost use Rattle.pgp_core.specs.Answerer.{MayAnswerBy, Replies};
+ghost use Rattle.pgp_core.specs.Answerer.{MayAnswerBy};
 ghost use Rattle.pgp_core.specs.Wants.{LacksReply};
 
-use pgp_core::{Answerer, NoReply, Want, asked_reply, traced_reply};
+use pgp_core::{Answerer, NoReply, Want, asked_reply, put_reply};
 use pgp_engine::{
     Answer, AskFault, Client, Engine, LocateFault, Naming, Place, SubmitAnswer, SubmitFault,
 };
 use pgp_feed::Receipt;
 use pgp_ids::{Entry, LocateRefusal, ObjectName, PgId, PoolId, View};
-use pgp_lines::Command;
-use pgp_text::{EntryOp, LineRefusal, Reply};
+use pgp_text::{EntryOp, LineRefusal, Reply, ReplyWriter};
 use std::alloc::Global;
 use std::marker::Model;
 use std::sync::Wait;
@@ -54,28 +53,6 @@ impl<'a, J: Naming, T: Wait> EngineAnswerer<'a, J, T> {
         }
     }
 
-    /// The reply to an entry. `Gone`: no copy of the log was lent to judge it by.
-    fn submit(&mut self, entry: Entry) -> Result<Reply, NoReply>
-        ensures reply { IfOk result (λ reply. Replies false self.old self.new (Submit entry) reply) }
-        ensures kept { OnErr result (MayAnswerBy false self.old self.new) }
-        ensures lacks { IfErr result (LacksReply false (Submit entry)) }
-    {
-        let op = EntryOp::of(&entry);
-        match self.engine.submit_with_epoch(self.rt, entry, &self.at) {
-            Ok(SubmitAnswer { at, epoch }) => {
-                let count = at.len();
-                self.at = at;
-                Ok(Reply::Accepted { op, count, epoch })
-            }
-            Err(SubmitFault::Refused { why, at }) => {
-                self.at = at;
-                Ok(Reply::Refused(LineRefusal::Entry(why)))
-            }
-            Err(SubmitFault::Memory) => Err(NoReply::Memory(Want::Entry)),
-            Err(SubmitFault::NoReader) => Err(NoReply::Gone),
-        }
-    }
-
     /// All that a front which the engine answers by says of a group, where its map has it. `Gone`: no copy of the log was lent
     /// to the group's shard.
     fn ask(&mut self, pg: PgId) -> Result<Option<View>, NoReply>
@@ -96,13 +73,33 @@ impl<'a, J: Naming, T: Wait> EngineAnswerer<'a, J, T> {
             Err(AskFault::NoReader) => Err(NoReply::Gone),
         }
     }
+}
 
-    /// The reply to the question where an object lies. `Gone`: no copy of the log was lent to the client.
-    fn locate(&mut self, pool: PoolId, name: &ObjectName) -> Result<Reply, NoReply>
-        ensures reply { IfOk result (λ reply. Replies false self.old self.new (Locate pool name.now) reply) }
-        ensures kept { OnErr result (MayAnswerBy false self.old self.new) }
-        ensures lacks { IfErr result (LacksReply false (Locate pool name.now)) }
-    {
+impl<'a, J: Naming, T: Wait> Answerer for EngineAnswerer<'a, J, T> {
+    ghost alone = { false };
+
+    ghost log = { λ answerer. answerer };
+
+    /// `Gone`: no copy of the log was lent to judge it by.
+    fn reply_to_entry(&mut self, entry: Entry) -> Result<Reply, NoReply> {
+        let op = EntryOp::of(&entry);
+        match self.engine.submit_with_epoch(self.rt, entry, &self.at) {
+            Ok(SubmitAnswer { at, epoch }) => {
+                let count = at.len();
+                self.at = at;
+                Ok(Reply::Accepted { op, count, epoch })
+            }
+            Err(SubmitFault::Refused { why, at }) => {
+                self.at = at;
+                Ok(Reply::Refused(LineRefusal::Entry(why)))
+            }
+            Err(SubmitFault::Memory) => Err(NoReply::Memory(Want::Entry)),
+            Err(SubmitFault::NoReader) => Err(NoReply::Gone),
+        }
+    }
+
+    /// `Gone`: no copy of the log was lent to the client.
+    fn reply_to_locate(&mut self, pool: PoolId, name: &ObjectName) -> Result<Reply, NoReply> {
         self.client.learn(&self.at);
         match self.client.locate(pool, name) {
             Ok(
@@ -124,19 +121,17 @@ impl<'a, J: Naming, T: Wait> EngineAnswerer<'a, J, T> {
             Err(LocateFault::NoReader) => Err(NoReply::Gone),
         }
     }
-}
 
-impl<'a, J: Naming, T: Wait> Answerer for EngineAnswerer<'a, J, T> {
-    ghost alone = { false };
-
-    ghost log = { λ answerer. answerer };
-
-    fn reply(&mut self, alloc: Global, command: Command) -> Result<Reply, NoReply> {
-        match command {
-            Command::Submit(entry) => self.submit(entry),
-            Command::Ask(pg) => Ok(asked_reply(pg, self.ask(pg)?)),
-            Command::Locate { pool, name } => self.locate(pool, &name),
-            Command::Trace { code, epochs } => Ok(traced_reply(alloc, code, epochs)?),
-        }
+    /// It is written from a copy, as nothing under a shard's lock is lent.
+    fn put_asked(
+        &mut self,
+        alloc: Global,
+        writer: &mut ReplyWriter,
+        pg: PgId,
+        text: &mut Vec<u8>,
+    ) -> Result<(), NoReply> {
+        let view = self.ask(pg)?;
+        put_reply(alloc, writer, &asked_reply(pg, view), text)?;
+        Ok(())
     }
 }

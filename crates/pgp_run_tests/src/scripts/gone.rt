@@ -3,12 +3,11 @@
 use crate::fakes::{NEVER, giver, taken_by, taker};
 use crate::runs::RunEnd;
 use pgp_core::{Answerer, Bounds, Format, NoReply, ScriptFault, answer_script};
-use pgp_ids::LocateRefusal;
-use pgp_lines::Command;
-use pgp_text::{LineRefusal, Reply};
+use pgp_ids::{Entry, LocateRefusal, ObjectName, PgId, PoolId};
+use pgp_text::{LineRefusal, Reply, ReplyWriter};
 use std::alloc::Global;
 
-/// Says where an object lies in a cluster without a pool, and is gone at any other command.
+/// Says where an object lies in a cluster without a pool, and is gone at entries and questions about groups.
 #[derive(Drop)]
 struct Leaver;
 
@@ -19,13 +18,22 @@ impl Answerer for Leaver {
 
     ghost log = { λ _. [] };
 
-    fn reply(&mut self, _alloc: Global, command: Command) -> Result<Reply, NoReply> {
-        match command {
-            Command::Locate { .. } => Ok(Reply::Refused(LineRefusal::Locate(
-                LocateRefusal::UnknownPool,
-            ))),
-            _ => Err(NoReply::Gone),
-        }
+    fn reply_to_entry(&mut self, _entry: Entry) -> Result<Reply, NoReply> {
+        Err(NoReply::Gone)
+    }
+
+    fn reply_to_locate(&mut self, _pool: PoolId, _name: &ObjectName) -> Result<Reply, NoReply> {
+        Ok(Reply::Refused(LineRefusal::Locate(LocateRefusal::UnknownPool)))
+    }
+
+    fn put_asked(
+        &mut self,
+        _alloc: Global,
+        _writer: &mut ReplyWriter,
+        _pg: PgId,
+        _text: &mut Vec<u8>,
+    ) -> Result<(), NoReply> {
+        Err(NoReply::Gone)
     }
 }
 

@@ -1,7 +1,7 @@
 use Rattle.std.proofs.Common.{[], sym, ap, ap₂, ◌∙◌}
 use Rattle.pgp_text.specs.declared.reply.Reply.TheVariants.{Traced}
 use Rattle.pgp_core.specs.Answer.{traced_reply}
-use Rattle.pgp_core.proofs.replies.traced_reply.Goals as goal
+use Rattle.pgp_core.proofs.answer.traced_reply.Goals as goal
 
 pub returns : goal.returns
 returns c =

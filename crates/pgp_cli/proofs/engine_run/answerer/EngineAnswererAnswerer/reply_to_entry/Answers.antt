@@ -1,5 +1,5 @@
 use Rattle.pgp_cli.proofs.ReplyLemmas.{submitted}
-use Rattle.pgp_cli.proofs.engine_run.answerer.EngineAnswerer.submit.Goals as goal
+use Rattle.pgp_cli.proofs.engine_run.answerer.EngineAnswererAnswerer.reply_to_entry.Goals as goal
 
 pub returns-in-Ok-clause-reply : goal.returns-in-Ok-clause-reply
 returns-in-Ok-clause-reply g c =

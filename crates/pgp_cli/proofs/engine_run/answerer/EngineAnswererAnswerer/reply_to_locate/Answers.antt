@@ -1,8 +1,7 @@
 use Rattle.pgp_feed.specs.Receipts.{entries_of}
 use Rattle.pgp_feed.proofs.Fronts.{front_trans}
-use Rattle.std.proofs.Common.{◌∙◌, ap, Err}
 use Rattle.pgp_cli.proofs.ReplyLemmas.{lies-nowhere, located}
-use Rattle.pgp_cli.proofs.engine_run.answerer.EngineAnswerer.locate.Goals as goal
+use Rattle.pgp_cli.proofs.engine_run.answerer.EngineAnswererAnswerer.reply_to_locate.Goals as goal
 
 pub returns-in-Ok-clause-reply : goal.returns-in-Ok-clause-reply
 returns-in-Ok-clause-reply g c =
