@@ -7,12 +7,12 @@ ghost use Rattle.pgp_group_words.specs.Json.{advice_data, json_of, place_fields,
 
 use super::advice::Advice;
 use super::explanation::Explanation;
-use super::json_parts::write_field;
 use super::offset::EpochOffset;
 use super::outcome::Outcome;
 use super::sentence::sentence;
 use json::Writer;
 use pgp_ids::Seq;
+use pgp_text::write_field;
 use std::alloc::{AllocError, Global};
 
 /// Puts what there is to say of a group behind what `text` has: one object in one line, which ends in a line feed, with the

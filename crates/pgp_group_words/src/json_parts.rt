@@ -1,150 +1,18 @@
 //! What is told of a group, as JSON.
 
-ghost use Rattle.std.specs.Prelude.{◌≡◌, ◌++◌, ◌∷◌, [], OnOk};
-ghost use Rattle.serde_json.specs.Data.{Data, string, boolean};
-ghost use Rattle.pgp_text.specs.Answered.{group_data, member_data, pair_data, place_data};
-ghost use Rattle.pgp_text.specs.Json.{list_data, number_data, option_data};
-ghost use Rattle.pgp_text.specs.Written.{fields_tokens, tokens_of};
-ghost use Rattle.pgp_group_words.specs.Json.{blocking_data, copies_data, copy_fields, epoch_data, fate_fields, gap_data, info_data, interval_data, log_fields, span_fields, write_data, writes_name as name_of_writes};
-ghost use Rattle.pgp_group_words.specs.declared.offset.EpochOffset.{EpochOffset as TheOffset};
+ghost use Rattle.std.specs.Prelude.{◌≡◌, ◌++◌, OnOk};
+ghost use Rattle.pgp_text.specs.Written.{fields_tokens};
+ghost use Rattle.pgp_group_words.specs.Json.{blocking_data, copies_data, copy_fields, fate_fields, gap_data, info_data, interval_data, log_fields, span_fields, writes_name as name_of_writes};
 
 use super::offset::EpochOffset;
 use json::Writer;
-use pgp_ids::{Epoch, Info, Member, OsdId, Osds, PgId, Place, Seq, Version};
+use pgp_ids::Info;
 use pgp_reasons::{Blocking, Copies, Gap, IntervalNow, Writes};
+use pgp_text::{Json, write_field, write_pair};
 use std::alloc::AllocError;
 
-/// What is written as one JSON value.
-pub trait Json {
-    // The value, where epochs are reported with an offset.
-    ghost value: { TheOffset → Self → Data };
-
-    /// Writes the value.
-    fn write(&self, out: &mut Writer, offset: EpochOffset) -> Result<(), AllocError>
-        ensures ok { OnOk result (out.new.tokens ≡ out.old.tokens ++ tokens_of (value offset self.now)) }
-        ensures before { out.new.before ≡ out.old.before };
-}
-
-impl Json for usize {
-    ghost value = { λ _ n. number_data n };
-
-    fn write(&self, out: &mut Writer, _offset: EpochOffset) -> Result<(), AllocError> {
-        out.u64(*self as u64)
-    }
-}
-
-impl Json for bool {
-    ghost value = { λ _ b. boolean b };
-
-    fn write(&self, out: &mut Writer, _offset: EpochOffset) -> Result<(), AllocError> {
-        out.boolean(*self)
-    }
-}
-
-impl Json for &str {
-    ghost value = { λ _ text. string text.now };
-
-    fn write(&self, out: &mut Writer, _offset: EpochOffset) -> Result<(), AllocError> {
-        out.string(self)
-    }
-}
-
-impl Json for Epoch {
-    ghost value = { epoch_data };
-
-    fn write(&self, out: &mut Writer, offset: EpochOffset) -> Result<(), AllocError> {
-        out.u64(offset.cluster_epoch(*self))
-    }
-}
-
-impl Json for OsdId {
-    ghost value = { λ _ osd. number_data osd };
-
-    fn write(&self, out: &mut Writer, _offset: EpochOffset) -> Result<(), AllocError> {
-        out.u64(u64::from(self.number()))
-    }
-}
-
-/// Null where it is empty.
-impl Json for Place {
-    ghost value = { λ _ place. place_data place };
-
-    fn write(&self, out: &mut Writer, offset: EpochOffset) -> Result<(), AllocError> {
-        self.osd().write(out, offset)
-    }
-}
-
-/// Null where there is nothing.
-impl<T: Json> Json for Option<T> {
-    ghost value = { λ offset. option_data (T.value offset) };
-
-    fn write(&self, out: &mut Writer, offset: EpochOffset) -> Result<(), AllocError> {
-        match self {
-            Some(value) => value.write(out, offset),
-            None => out.null(),
-        }
-    }
-}
-
-impl<T: Json> Json for Seq<T> {
-    ghost value = { λ offset. list_data (T.value offset) };
-
-    fn write(&self, out: &mut Writer, offset: EpochOffset) -> Result<(), AllocError> {
-        write_list(out, offset, self.as_slice())
-    }
-}
-
-/// The places in order, null for an empty one.
-impl Json for Osds {
-    ghost value = { λ _ osds. list_data place_data osds };
-
-    fn write(&self, out: &mut Writer, offset: EpochOffset) -> Result<(), AllocError> {
-        write_list(out, offset, self.as_slice())
-    }
-}
-
-/// Writes the items of a list in order.
-fn write_list<T: Json>(out: &mut Writer, offset: EpochOffset, items: &[T]) -> Result<(), AllocError>
-    ensures ok { OnOk result
-        (out.new.tokens ≡ out.old.tokens ++ tokens_of (list_data (T.value offset) items.now)) }
-    ensures before { out.new.before ≡ out.old.before }
-{
-    out.begin_array()?;
-    for item in items {
-        item.write(out, offset)?;
-    }
-    out.end_array()
-}
-
-/// `[pool, number]`.
-impl Json for PgId {
-    ghost value = { λ _ pg. group_data pg };
-
-    fn write(&self, out: &mut Writer, _offset: EpochOffset) -> Result<(), AllocError> {
-        write_pair(out, u64::from(self.pool.number()), u64::from(self.pg))
-    }
-}
-
-/// `[device, slot]`.
-impl Json for Member {
-    ghost value = { λ _ member. member_data member };
-
-    fn write(&self, out: &mut Writer, _offset: EpochOffset) -> Result<(), AllocError> {
-        write_pair(out, u64::from(self.osd.number()), u64::from(self.slot))
-    }
-}
-
-/// `[epoch, number]`.
-impl Json for Version {
-    ghost value = { write_data };
-
-    fn write(&self, out: &mut Writer, offset: EpochOffset) -> Result<(), AllocError> {
-        write_pair(out, offset.cluster_epoch(self.epoch), u64::from(self.v))
-    }
-}
-
 /// `[first, last]`.
-impl Json for Gap {
+impl Json<EpochOffset> for Gap {
     ghost value = { λ _ gap. gap_data gap };
 
     fn write(&self, out: &mut Writer, _offset: EpochOffset) -> Result<(), AllocError> {
@@ -152,17 +20,7 @@ impl Json for Gap {
     }
 }
 
-fn write_pair(out: &mut Writer, a: u64, b: u64) -> Result<(), AllocError>
-    ensures ok { OnOk result (out.new.tokens ≡ out.old.tokens ++ tokens_of (pair_data a b)) }
-    ensures before { out.new.before ≡ out.old.before }
-{
-    out.begin_array()?;
-    out.u64(a)?;
-    out.u64(b)?;
-    out.end_array()
-}
-
-impl Json for Info {
+impl Json<EpochOffset> for Info {
     ghost value = { info_data };
 
     #[tactic(auto, using(pgp_text::proofs::Tokens::token_steps))]
@@ -200,7 +58,7 @@ fn write_log(out: &mut Writer, offset: EpochOffset, info: &Info) -> Result<(), A
     write_field(out, offset, "stamp", &info.stamp)
 }
 
-impl Json for IntervalNow {
+impl Json<EpochOffset> for IntervalNow {
     ghost value = { interval_data };
 
     #[tactic(auto, using(pgp_text::proofs::Tokens::token_steps))]
@@ -257,7 +115,7 @@ fn writes_name(writes: Writes) -> &'static str
     }
 }
 
-impl Json for Blocking {
+impl Json<EpochOffset> for Blocking {
     ghost value = { blocking_data };
 
     #[tactic(auto, using(pgp_text::proofs::Tokens::token_steps))]
@@ -270,7 +128,7 @@ impl Json for Blocking {
     }
 }
 
-impl Json for Copies {
+impl Json<EpochOffset> for Copies {
     ghost value = { λ _ copies. copies_data copies };
 
     #[tactic(auto, using(pgp_text::proofs::Tokens::token_steps))]
@@ -280,20 +138,4 @@ impl Json for Copies {
         write_field(out, offset, "members", &self.members)?;
         out.end_object()
     }
-}
-
-/// Writes a field of the object that is open.
-#[tactic(auto, unfolding(pgp_text::specs::Written::fields_tokens))]
-pub fn write_field<T: Json>(
-    out: &mut Writer,
-    offset: EpochOffset,
-    key: &str,
-    value: &T,
-) -> Result<(), AllocError>
-    ensures ok { OnOk result
-        (out.new.tokens ≡ out.old.tokens ++ fields_tokens ((key.now, T.value offset value.now) ∷ [])) }
-    ensures before { out.new.before ≡ out.old.before }
-{
-    out.key(key)?;
-    value.write(out, offset)
 }

@@ -25,7 +25,6 @@ pub use advice::Advice;
 pub use explanation::Explanation;
 pub use group_json::{into_line, put_json};
 pub use group_words::put_words;
-pub use json_parts::{Json, write_field};
 pub use names::{Device, plural};
 pub use offset::EpochOffset;
 pub use outcome::{Outcome, Then};

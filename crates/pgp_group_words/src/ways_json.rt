@@ -7,14 +7,14 @@ ghost use Rattle.pgp_text.specs.Json.{option_data};
 ghost use Rattle.pgp_group_words.specs.Json.{any_data, any_of, may_be_more as may_be_others, outcome_data, outcome_fields, then_data, ways_data};
 
 use super::advice::Advice;
-use super::json_parts::{Json, write_field};
 use super::offset::EpochOffset;
 use super::outcome::{Outcome, Then};
 use json::Writer;
 use pgp_reasons::{AnyOf, Ways};
+use pgp_text::{Json, write_field};
 use std::alloc::AllocError;
 
-impl Json for Advice {
+impl Json<EpochOffset> for Advice {
     ghost value = { ways_data };
 
     /// The ways that only start devices.
@@ -53,7 +53,7 @@ fn may_be_more(ways: &Ways) -> bool
     }
 }
 
-impl Json for AnyOf {
+impl Json<EpochOffset> for AnyOf {
     ghost value = { λ _ any. any_data any };
 
     #[tactic(auto, using(pgp_text::proofs::Tokens::token_steps))]
@@ -66,7 +66,7 @@ impl Json for AnyOf {
 }
 
 /// What is done, what the group is then, and what that costs.
-impl Json for Outcome {
+impl Json<EpochOffset> for Outcome {
     ghost value = { outcome_data };
 
     #[tactic(auto, using(pgp_text::proofs::Tokens::token_steps))]
@@ -90,7 +90,7 @@ fn write_outcome(out: &mut Writer, offset: EpochOffset, outcome: &Outcome) -> Re
     write_field(out, offset, "unreadable", &outcome.price.unreadable)
 }
 
-impl Json for Then {
+impl Json<EpochOffset> for Then {
     ghost value = { λ _ after. then_data after };
 
     #[tactic(auto, using(pgp_text::proofs::Tokens::token_steps))]
@@ -102,7 +102,7 @@ impl Json for Then {
     }
 }
 
-impl Json for String {
+impl Json<EpochOffset> for String {
     ghost value = { λ _ text. string (string_bytes text) };
 
     fn write(&self, out: &mut Writer, _offset: EpochOffset) -> Result<(), AllocError> {

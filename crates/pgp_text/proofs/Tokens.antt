@@ -7,7 +7,7 @@ use Rattle.serde_json.specs.Data.{Data, Members, member}
 use Rattle.serde_json.specs.View.{items_of}
 use Rattle.serde_json.specs.Written.{items_outline, members_outline}
 use Rattle.serde_json.proofs.Texts.{print-outline}
-use Rattle.pgp_text.specs.Json.{Field, list_data, members_with, object_with}
+use Rattle.pgp_text.specs.Json.{Field, list_data, fields_members, object_with}
 use Rattle.pgp_text.specs.Written.{tokens_of, fields_tokens}
 
 fields_tokens-append : (fs gs : List Field) → fields_tokens (fs ++ gs) ≡ fields_tokens fs ++ fields_tokens gs
@@ -25,7 +25,7 @@ pub fields_then : (fs gs : List Field) (old mid new : List Token) → mid ≡ ol
     → new ≡ old ++ fields_tokens (fs ++ gs)
 fields_then fs gs old mid new first rest = rest ∙ ap (λ ts. ts ++ fields_tokens gs) first ∙ fields_joined old fs gs
 
-members_tokens-fields : (fs : List Field) → members_tokens (members_outline (members_with fs)) ≡ fields_tokens fs ++ end_object ∷ []
+members_tokens-fields : (fs : List Field) → members_tokens (members_outline (fields_members fs)) ≡ fields_tokens fs ++ end_object ∷ []
 unfolding fields_tokens
 members_tokens-fields [] = refl
 members_tokens-fields (f ∷ fs) =

@@ -8,13 +8,13 @@ abbrev pub Field : Type 0
 Field = List ℕ × Data
 
 -- the members of an object, as listed
-abbrev pub members_with : List Field → Members
-members_with [] = no_members
-members_with (f ∷ fs) = member f.0 f.1 (members_with fs)
+abbrev pub fields_members : List Field → Members
+fields_members [] = no_members
+fields_members (f ∷ fs) = member f.0 f.1 (fields_members fs)
 
 -- an object of these members
 abbrev pub object_with : List Field → Data
-object_with fs = object (members_with fs)
+object_with fs = object (fields_members fs)
 
 -- a whole number
 abbrev pub number_data : ℕ → Data

@@ -11,7 +11,6 @@ mod devices;
 mod entry_op;
 mod intervals;
 mod line_refusal;
-mod members;
 mod parts;
 mod peers;
 
@@ -20,7 +19,7 @@ use devices::{write_acting, write_up};
 pub use entry_op::EntryOp;
 use json::Writer;
 pub use line_refusal::LineRefusal;
-use parts::{Json, write_field};
+pub use parts::{EpochNumbers, Json, write_field, write_pair};
 use pgp_ids::{Epoch, Membership, Past, PgId, Seq, View};
 use pgp_lines::Op;
 use std::alloc::{AllocError, Global};
@@ -89,7 +88,7 @@ impl ReplyWriter {
         ensures err { OnErr result (text.new.items ≡ text.old.items) }
     {
         let mut out = self.begin(alloc);
-        reply.write(alloc, &mut out)?;
+        reply.write(&mut out, alloc)?;
         self.end(out, text)
     }
 
@@ -132,10 +131,10 @@ impl ReplyWriter {
     }
 }
 
-impl Json for Reply {
-    ghost value = { reply_data };
+impl Json<Global> for Reply {
+    ghost value = { λ _ x. reply_data x };
 
-    fn write(&self, alloc: Global, out: &mut Writer) -> Result<(), AllocError> {
+    fn write(&self, out: &mut Writer, alloc: Global) -> Result<(), AllocError> {
         match self {
             Reply::Accepted { op, count, epoch } => write_accepted(alloc, out, *op, *count, *epoch),
             Reply::Asked(pg, view) => write_asked(alloc, out, *pg, view, view.count, view.epoch),
@@ -143,7 +142,7 @@ impl Json for Reply {
                 alloc, out, *pg, members, *epoch,
             ),
             Reply::Traced { first, past } => write_traced(alloc, out, *first, past),
-            Reply::Refused(refused) => refused.write(alloc, out),
+            Reply::Refused(refused) => refused.write(out, alloc),
         }
     }
 }
@@ -161,9 +160,9 @@ fn write_accepted(
     ensures before { out.new.before ≡ out.old.before }
 {
     out.begin_object()?;
-    write_field(alloc, out, "count", &count)?;
-    write_field(alloc, out, "epoch", &epoch)?;
-    write_field(alloc, out, "ok", &op.name())?;
+    write_field(out, alloc, "count", &count)?;
+    write_field(out, alloc, "epoch", &epoch)?;
+    write_field(out, alloc, "ok", &op.name())?;
     out.end_object()
 }
 
@@ -193,9 +192,9 @@ fn write_place(alloc: Global, out: &mut Writer, pg: PgId, epoch: Epoch) -> Resul
         (out.new.tokens ≡ out.old.tokens ++ fields_tokens (place_fields pg epoch)) }
     ensures before { out.new.before ≡ out.old.before }
 {
-    write_field(alloc, out, "epoch", &epoch)?;
-    write_field(alloc, out, "ok", &Op::Locate.name())?;
-    write_field(alloc, out, "pg", &pg)
+    write_field(out, alloc, "epoch", &epoch)?;
+    write_field(out, alloc, "ok", &Op::Locate.name())?;
+    write_field(out, alloc, "pg", &pg)
 }
 
 fn write_traced(
@@ -209,8 +208,8 @@ fn write_traced(
     ensures before { out.new.before ≡ out.old.before }
 {
     out.begin_object()?;
-    write_field(alloc, out, "first", &first)?;
-    write_field(alloc, out, "intervals", past)?;
-    write_field(alloc, out, "ok", &Op::Trace.name())?;
+    write_field(out, alloc, "first", &first)?;
+    write_field(out, alloc, "intervals", past)?;
+    write_field(out, alloc, "ok", &Op::Trace.name())?;
     out.end_object()
 }

@@ -9,8 +9,9 @@ use super::summary::Summary;
 use super::tally::Tally;
 use super::waits::Waits;
 use json::Writer;
-use pgp_group_words::{EpochOffset, Json, into_line, write_field};
+use pgp_group_words::{EpochOffset, into_line};
 use pgp_ids::{OsdId, Verdict};
+use pgp_text::{Json, write_field};
 use std::alloc::{AllocError, Global};
 
 /// The verdicts, in the ascending order of their names.
@@ -107,7 +108,7 @@ fn write_device(
 }
 
 /// How many groups have which verdict; one that no group has is left out.
-impl Json for Tally {
+impl Json<EpochOffset> for Tally {
     ghost value = { λ _ tally. tally_data tally };
 
     #[tactic(auto, using(pgp_text::proofs::Tokens::token_steps), unfolding(crate::specs::SummaryText::tally_fields))]

@@ -26,12 +26,12 @@ pub(super) fn write_asked(
 {
     out.begin_object()?;
     write_acting(alloc, out, &known.acting, known.acting_primary)?;
-    write_field(alloc, out, "best", &known.best)?;
-    write_field(alloc, out, "blocked_by", &known.blocked_by)?;
+    write_field(out, alloc, "best", &known.best)?;
+    write_field(out, alloc, "blocked_by", &known.blocked_by)?;
     write_history(alloc, out, known, count, epoch)?;
     write_peers(alloc, out, pg, known)?;
     write_up(alloc, out, &known.up, known.up_primary)?;
-    write_field(alloc, out, "verdict", &known.verdict.name())?;
+    write_field(out, alloc, "verdict", &known.verdict.name())?;
     out.end_object()
 }
 
@@ -47,11 +47,11 @@ fn write_history(
         ≡ out.old.tokens ++ fields_tokens (history_fields (record known.now { count = count; epoch = epoch }))) }
     ensures before { out.new.before ≡ out.old.before }
 {
-    write_field(alloc, out, "count", &count)?;
-    write_field(alloc, out, "epoch", &epoch)?;
-    write_field(alloc, out, "first", &known.first)?;
-    write_field(alloc, out, "intervals", &known.intervals)?;
-    write_field(alloc, out, "les", &known.les)
+    write_field(out, alloc, "count", &count)?;
+    write_field(out, alloc, "epoch", &epoch)?;
+    write_field(out, alloc, "first", &known.first)?;
+    write_field(out, alloc, "intervals", &known.intervals)?;
+    write_field(out, alloc, "les", &known.les)
 }
 
 /// What the peers lack, and who has to be heard.
@@ -61,8 +61,8 @@ fn write_peers(alloc: Global, out: &mut Writer, pg: PgId, known: &View) -> Resul
         (out.new.tokens ≡ out.old.tokens ++ fields_tokens (peer_fields pg known.now)) }
     ensures before { out.new.before ≡ out.old.before }
 {
-    write_field(alloc, out, "missing", &known.missing)?;
-    write_field(alloc, out, "ok", &Op::Ask.name())?;
-    write_field(alloc, out, "pg", &pg)?;
-    write_field(alloc, out, "probe", &known.probe)
+    write_field(out, alloc, "missing", &known.missing)?;
+    write_field(out, alloc, "ok", &Op::Ask.name())?;
+    write_field(out, alloc, "pg", &pg)?;
+    write_field(out, alloc, "probe", &known.probe)
 }

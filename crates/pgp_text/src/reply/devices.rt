@@ -18,8 +18,8 @@ pub(super) fn write_acting(
         (out.new.tokens ≡ out.old.tokens ++ fields_tokens (acting_fields acting.now primary)) }
     ensures before { out.new.before ≡ out.old.before }
 {
-    write_field(alloc, out, "acting", acting)?;
-    write_field(alloc, out, "acting_primary", &primary)
+    write_field(out, alloc, "acting", acting)?;
+    write_field(out, alloc, "acting_primary", &primary)
 }
 
 pub(super) fn write_up(
@@ -32,6 +32,6 @@ pub(super) fn write_up(
         (out.new.tokens ≡ out.old.tokens ++ fields_tokens (up_fields up.now primary)) }
     ensures before { out.new.before ≡ out.old.before }
 {
-    write_field(alloc, out, "up", up)?;
-    write_field(alloc, out, "up_primary", &primary)
+    write_field(out, alloc, "up", up)?;
+    write_field(out, alloc, "up_primary", &primary)
 }

@@ -10,11 +10,11 @@ use json::Writer;
 use pgp_ids::Past;
 use std::alloc::{AllocError, Global};
 
-impl Json for Past {
-    ghost value = { interval_data };
+impl Json<Global> for Past {
+    ghost value = { λ _ x. interval_data x };
 
     #[tactic(auto, using(crate::proofs::Tokens::token_steps))]
-    fn write(&self, alloc: Global, out: &mut Writer) -> Result<(), AllocError> {
+    fn write(&self, out: &mut Writer, alloc: Global) -> Result<(), AllocError> {
         let members = &self.members;
         out.begin_object()?;
         write_acting(alloc, out, &members.acting, members.acting_primary)?;
@@ -30,9 +30,9 @@ fn write_past(alloc: Global, out: &mut Writer, past: &Past) -> Result<(), AllocE
         (out.new.tokens ≡ out.old.tokens ++ fields_tokens (past_fields past.now)) }
     ensures before { out.new.before ≡ out.old.before }
 {
-    write_field(alloc, out, "first", &past.first)?;
-    write_field(alloc, out, "last", &past.last)?;
-    write_field(alloc, out, "min_size", &past.members.min_size)?;
-    write_field(alloc, out, "rw", &past.rw)?;
-    write_field(alloc, out, "size", &past.members.size)
+    write_field(out, alloc, "first", &past.first)?;
+    write_field(out, alloc, "last", &past.last)?;
+    write_field(out, alloc, "min_size", &past.members.min_size)?;
+    write_field(out, alloc, "rw", &past.rw)?;
+    write_field(out, alloc, "size", &past.members.size)
 }

@@ -93,15 +93,15 @@ fn fault_key(fault: &TextFault) -> Option<&str>
     }
 }
 
-impl Json for LineRefusal {
-    ghost value = { refused_data };
+impl Json<Global> for LineRefusal {
+    ghost value = { λ _ x. refused_data x };
 
     #[tactic(auto, using(crate::proofs::Tokens::token_steps))]
-    fn write(&self, alloc: Global, out: &mut Writer) -> Result<(), AllocError> {
+    fn write(&self, out: &mut Writer, alloc: Global) -> Result<(), AllocError> {
         out.begin_object()?;
-        write_field(alloc, out, "code", &self.number())?;
+        write_field(out, alloc, "code", &self.number())?;
         write_key(alloc, out, self)?;
-        write_field(alloc, out, "refused", &self.name())?;
+        write_field(out, alloc, "refused", &self.name())?;
         write_tree(alloc, out, self)?;
         out.end_object()
     }
@@ -115,7 +115,7 @@ fn write_key(alloc: Global, out: &mut Writer, refused: &LineRefusal) -> Result<(
     ensures before { out.new.before ≡ out.old.before }
 {
     match refused.key() {
-        Some(key) => write_field(alloc, out, "key", &key),
+        Some(key) => write_field(out, alloc, "key", &key),
         None => Ok(()),
     }
 }
@@ -128,7 +128,7 @@ fn write_tree(alloc: Global, out: &mut Writer, refused: &LineRefusal) -> Result<
     ensures before { out.new.before ≡ out.old.before }
 {
     match refused.tree() {
-        Some(tree) => write_field(alloc, out, "tree", &tree),
+        Some(tree) => write_field(out, alloc, "tree", &tree),
         None => Ok(()),
     }
 }

@@ -11,15 +11,15 @@ use pgp_ids::{MissingObject, PeerMissing, PeerState, Version};
 use std::alloc::{AllocError, Global};
 use std::collections::BTreeMap;
 
-impl Json for PeerMissing {
-    ghost value = { missing_data };
+impl Json<Global> for PeerMissing {
+    ghost value = { λ _ x. missing_data x };
 
     #[tactic(auto, using(crate::proofs::Tokens::token_steps))]
-    fn write(&self, alloc: Global, out: &mut Writer) -> Result<(), AllocError> {
+    fn write(&self, out: &mut Writer, alloc: Global) -> Result<(), AllocError> {
         out.begin_object()?;
-        write_field(alloc, out, "member", &self.member)?;
+        write_field(out, alloc, "member", &self.member)?;
         write_objects(alloc, out, &self.state)?;
-        write_field(alloc, out, "state", &self.state.name())?;
+        write_field(out, alloc, "state", &self.state.name())?;
         out.end_object()
     }
 }
@@ -34,7 +34,7 @@ fn write_objects(alloc: Global, out: &mut Writer, state: &PeerState) -> Result<(
     match state {
         PeerState::Missing(objects) => {
             let versions = versions_of(alloc, objects.as_slice())?;
-            write_field(alloc, out, "objects", &versions)
+            write_field(out, alloc, "objects", &versions)
         }
         _ => Ok(()),
     }
@@ -70,14 +70,14 @@ fn insert_version(
 }
 
 /// An object from name to version.
-impl Json for BTreeMap<String, Version> {
-    ghost value = { λ versions. object (versions_members versions.entries) };
+impl Json<Global> for BTreeMap<String, Version> {
+    ghost value = { λ _ versions. object (versions_members versions.entries) };
 
     #[tactic(auto, using(crate::proofs::Tokens::field_of_members))]
-    fn write(&self, alloc: Global, out: &mut Writer) -> Result<(), AllocError> {
+    fn write(&self, out: &mut Writer, alloc: Global) -> Result<(), AllocError> {
         out.begin_object()?;
         for (name, version) in self.iter() {
-            write_field(alloc, out, name.as_str(), version)?;
+            write_field(out, alloc, name.as_str(), version)?;
         }
         out.end_object()
     }

@@ -6,7 +6,7 @@ use Rattle.serde_json.specs.Written.{members_outline}
 use Rattle.pgp_ids.specs.declared.version.Version.{Version}
 use Rattle.pgp_text.specs.Versions.{versions_members}
 use Rattle.pgp_text.proofs.Tokens.{field_of_members}
-use Rattle.pgp_text.proofs.reply.peers.BTreeMapStringVersionJson.write.Goals as goal
+use Rattle.pgp_text.proofs.reply.peers.BTreeMapStringVersionJsonGlobal.write.Goals as goal
 
 -- what is written, and behind it these members
 abbrev followed_by : List Token → List (String Global × Version) → List Token

@@ -1,6 +1,6 @@
 use Rattle.std.proofs.lemmas.Result.{on_ok_weaker}
 use Rattle.pgp_text.proofs.Tokens.{fields_then, object_written}
-use Rattle.pgp_group_words.proofs.ways_json.ThenJson.write.Goals as goal
+use Rattle.pgp_group_words.proofs.ways_json.ThenJsonEpochOffset.write.Goals as goal
 
 pub returns-clause-ok : goal.returns-clause-ok
 returns-clause-ok c =
