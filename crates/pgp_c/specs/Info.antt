@@ -9,7 +9,7 @@ use Rattle.pgp_log.specs.Fits.{fits}
 use Rattle.pgp_text.specs.declared.reply.Reply.{Reply}
 use Rattle.pgp_text.specs.declared.reply.Reply.TheVariants.{Accepted, Asked, Located, Traced, Refused}
 use Rattle.pgp_text.specs.declared.reply.line_refusal.LineRefusal.TheVariants as why
-use Rattle.pgp_core.specs.Session.{LogAndAnswer, log_in, reply_in}
+use Rattle.pgp_core.specs.Session.{LogAndAnswer, log_then, reply_in}
 use Rattle.pgp_c.specs.Ask.{AreOfGroup, group}
 use Rattle.pgp_c.specs.Member.{AreOfMember, member}
 use Rattle.pgp_c.specs.Status.{status_number}
@@ -51,7 +51,7 @@ reply_status (Refused (why.Line fault)) = status_number Done
 
 -- the entry was told, and there was memory for it
 pub record IsEntryTold (was now : LogAndAnswer) (new : Entry) (status : ℕ) : Type 0 where
-  pub log : now.log ≡ log_in was.log (Submit new)
+  pub log : now.log ≡ log_then was.log (Submit new)
   pub status_is : status ≡ reply_status (reply_in was.log (Submit new))
 
 -- there was no memory for the entry, which is one that the log takes

@@ -37,8 +37,8 @@ unfoldable pub reply_in : List Entry → Command → Reply
 reply_in log command = reply_of log command
 
 -- the log after a command
-unfoldable pub log_in : List Entry → Command → List Entry
-log_in log command = log_after log command
+unfoldable pub log_then : List Entry → Command → List Entry
+log_then log command = log_after log command
 
 -- what the log says of a group
 unfoldable pub view_in : List Entry → PgId → Option View

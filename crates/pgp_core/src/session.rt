@@ -5,7 +5,7 @@ ghost use Rattle.std.specs.Arc.{arc_value};
 ghost use Rattle.pgp_log.specs.Log.{is_legal};
 ghost use Rattle.pgp_lines.specs.declared.command.Command.TheVariants.{Locate, Submit};
 ghost use Rattle.pgp_core.specs.Script.{MayMeet, answer, log_past};
-ghost use Rattle.pgp_core.specs.Session.{LogAndAnswer, last_text, log_in, met_by, reply_in, view_in};
+ghost use Rattle.pgp_core.specs.Session.{LogAndAnswer, last_text, log_then, met_by, reply_in, view_in};
 ghost use Rattle.pgp_core.specs.Wants.{MayFindNone};
 
 use super::answer::{NoReply, answer_line};
@@ -135,10 +135,10 @@ impl Session {
     }
 
     /// Tells the log an entry, and gives the reply. Where the log takes the entry, it has it from now on.
-    #[tactic(auto, unfolding(crate::specs::Session::reply_in, crate::specs::Session::log_in))]
+    #[tactic(auto, unfolding(crate::specs::Session::reply_in, crate::specs::Session::log_then))]
     pub fn submit(&mut self, entry: Entry) -> Result<Reply, AllocError>
         ensures reply { IfOk result (λ reply. reply ≡ reply_in self.old.log (Submit entry)) }
-        ensures log { OnOk result (self.new.log ≡ log_in self.old.log (Submit entry)) }
+        ensures log { OnOk result (self.new.log ≡ log_then self.old.log (Submit entry)) }
         ensures answer { self.new.answer ≡ self.old.answer }
         ensures format { self.new.format ≡ self.old.format }
         ensures kept { OnErr result (self.new.log ≡ self.old.log) }

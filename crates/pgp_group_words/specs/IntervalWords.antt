@@ -8,7 +8,7 @@ use Rattle.pgp_reasons.specs.declared.blocking.Blocking.{Blocking}
 use Rattle.pgp_reasons.specs.declared.fates.IntervalNow.{IntervalNow}
 use Rattle.pgp_group_words.specs.Text.{Text, joined, line, listed}
 use Rattle.pgp_group_words.specs.Names.{epoch_name, device_name, leader_name, member_name, places_name, are, plural}
-use Rattle.pgp_group_words.specs.Spans.{epochs_in}
+use Rattle.pgp_group_words.specs.Spans.{interval_epochs}
 use Rattle.pgp_group_words.specs.declared.names.Naming.{Naming}
 use Rattle.pgp_group_words.specs.declared.offset.EpochOffset.{EpochOffset}
 
@@ -28,7 +28,7 @@ member_noun by_place count = if by_place then plural count (codes "shard") (code
 unfoldable pub waits_line : Naming → Blocking → Text
 waits_line naming blocking = line (
     codes "\nIt waits for the interval of "
-    ∷ epochs_in blocking.interval naming.offset
+    ∷ interval_epochs blocking.interval naming.offset
     ∷ codes " on "
     ∷ places_name blocking.interval.acting
     ∷ codes ", which needs "

@@ -70,10 +70,10 @@ span_fields offset interval =
     ∷ (codes "last", epoch_data offset interval.last)
     ∷ []
 
-abbrev pub writes_name : Writes → Text
-writes_name Readable = codes "readable"
-writes_name Away = codes "away"
-writes_name Gone = codes "gone"
+abbrev pub fate_name : Writes → Text
+fate_name Readable = codes "readable"
+fate_name Away = codes "away"
+fate_name Gone = codes "gone"
 
 -- who was declared lost, who is up, and what has become of its writes
 abbrev pub fate_fields : IntervalNow → List Field
@@ -81,16 +81,16 @@ fate_fields interval =
     (codes "lost", devices_data interval.lost)
     ∷ (codes "lost_before", devices_data interval.lost_before)
     ∷ (codes "up", devices_data interval.up)
-    ∷ (codes "writes", string (writes_name interval.writes))
+    ∷ (codes "writes", string (fate_name interval.writes))
     ∷ []
 
-abbrev pub interval_data : EpochOffset → IntervalNow → Data
-interval_data offset interval = object_with (span_fields offset interval ++ fate_fields interval)
+abbrev pub interval_now_data : EpochOffset → IntervalNow → Data
+interval_now_data offset interval = object_with (span_fields offset interval ++ fate_fields interval)
 
 abbrev pub blocking_data : EpochOffset → Blocking → Data
 blocking_data offset blocking = object_with (
     (codes "clean", option_data (epoch_data offset) blocking.clean)
-    ∷ (codes "interval", interval_data offset blocking.interval)
+    ∷ (codes "interval", interval_now_data offset blocking.interval)
     ∷ (codes "lacks", number_data blocking.lacks)
     ∷ [])
 
@@ -106,7 +106,7 @@ then_data after =
 -- what is done, what the group is then, and what that costs
 abbrev pub outcome_fields : EpochOffset → Outcome → List Field
 outcome_fields offset outcome =
-    (codes "intervals", list_data (interval_data offset) outcome.price.intervals)
+    (codes "intervals", list_data (interval_now_data offset) outcome.price.intervals)
     ∷ (codes "lost", devices_data outcome.losses)
     ∷ (codes "start", devices_data outcome.starts)
     ∷ (codes "then", option_data then_data outcome.after)
@@ -138,12 +138,12 @@ ways_data offset advice = object_with (
 -- ---- a group
 
 -- where the group lies, what blocks it, and whose copies are complete
-abbrev pub place_fields : EpochOffset → Explanation → List Field
-place_fields offset explanation =
+abbrev pub position_fields : EpochOffset → Explanation → List Field
+position_fields offset explanation =
     (codes "acting", osds_data explanation.view.acting)
     ∷ (codes "acting_primary", place_data explanation.view.acting_primary)
     ∷ (codes "blocking", list_data (blocking_data offset) explanation.reasons.blocking)
-    ∷ (codes "clean", option_data (interval_data offset) explanation.reasons.clean)
+    ∷ (codes "clean", option_data (interval_now_data offset) explanation.reasons.clean)
     ∷ (codes "copies", copies_data explanation.reasons.copies)
     ∷ []
 
@@ -182,11 +182,11 @@ verdict_fields offset advice =
 -- what is said of a group
 abbrev pub advice_data : EpochOffset → Advice → Data
 advice_data offset advice = object_with (
-    place_fields offset advice.explanation
+    position_fields offset advice.explanation
     ++ (reason_fields offset advice.explanation
     ++ (resort_fields offset advice.last_resort
     ++ (sentence_fields offset advice.explanation ++ verdict_fields offset advice))))
 
 -- as one line
-unfoldable pub json_of : Advice → EpochOffset → Text
-json_of advice offset = compact_text (advice_data offset advice) ++ 10 ∷ []
+unfoldable pub advice_json : Advice → EpochOffset → Text
+advice_json advice offset = compact_text (advice_data offset advice) ++ 10 ∷ []

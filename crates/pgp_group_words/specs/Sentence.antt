@@ -12,7 +12,7 @@ use Rattle.pgp_reasons.specs.declared.gap.Gap.{Gap}
 use Rattle.pgp_group_words.specs.Text.{Text, joined, listed}
 use Rattle.pgp_group_words.specs.Lags.{laggard_of, laggard_name}
 use Rattle.pgp_group_words.specs.Names.{epoch_name, device_name, leader_name, member_name, are, plural}
-use Rattle.pgp_group_words.specs.Spans.{epochs_in, epochs_name, writes_name}
+use Rattle.pgp_group_words.specs.Spans.{interval_epochs, epochs_name, writes_name}
 use Rattle.pgp_group_words.specs.declared.explanation.Explanation.{Explanation}
 use Rattle.pgp_group_words.specs.declared.lags.Laggard.{Laggard}
 use Rattle.pgp_group_words.specs.declared.names.Naming.{Naming}
@@ -117,7 +117,7 @@ fallen_part osds =
 unfoldable pub held_part : IntervalNow → EpochOffset → Text
 held_part interval offset = joined (
     codes " Of those that were complete in "
-    ∷ epochs_in interval offset
+    ∷ interval_epochs interval offset
     ∷ codes ", when it was last clean, "
     ∷ listed (map device_name interval.down)
     ∷ codes " "

@@ -8,8 +8,8 @@ use Rattle.pgp_group_words.specs.Names.{cluster_epoch}
 use Rattle.pgp_group_words.specs.declared.offset.EpochOffset.{EpochOffset}
 use Rattle.pgp_group_words.specs.declared.spans.Span.{Span}
 
-abbrev pub from_to : ℕ → ℕ → Span
-from_to first last = record { first = first; last = last }
+abbrev pub run_between : ℕ → ℕ → Span
+run_between first last = record { first = first; last = last }
 
 -- a number alone, or the first and the last of a run
 abbrev pub span_name : Span → Text
@@ -17,7 +17,7 @@ span_name run = if run.first == run.last then decimal run.first else joined (dec
 
 -- the epochs of an interval, as they are reported
 abbrev pub epochs_of : EpochOffset → IntervalNow → Span
-epochs_of offset interval = from_to (cluster_epoch offset interval.first) (cluster_epoch offset interval.last)
+epochs_of offset interval = run_between (cluster_epoch offset interval.first) (cluster_epoch offset interval.last)
 
 -- those of an interval that blocks
 abbrev pub epochs_blocked : EpochOffset → Blocking → Span
@@ -26,7 +26,7 @@ epochs_blocked offset blocking = epochs_of offset blocking.interval
 -- runs with one behind them: the last is longer by it where it follows upon that
 abbrev pub then_run : List Span → Span → List Span
 then_run [] next = next ∷ []
-then_run (run ∷ []) next = if next.first == run.last + 1 then from_to run.first next.last ∷ [] else run ∷ next ∷ []
+then_run (run ∷ []) next = if next.first == run.last + 1 then run_between run.first next.last ∷ [] else run ∷ next ∷ []
 then_run (run ∷ other ∷ runs) next = run ∷ then_run (other ∷ runs) next
 
 -- the epochs of intervals in ascending order; those that follow one upon another are one run
@@ -35,7 +35,7 @@ runs_of_epochs offset intervals = fold then_run [] (map (epochs_blocked offset) 
 
 -- the writes that a log lacks
 abbrev pub run_of_writes : Gap → Span
-run_of_writes gap = from_to gap.first gap.last
+run_of_writes gap = run_between gap.first gap.last
 
 unfoldable pub runs_of_writes : List Gap → List Span
 runs_of_writes gaps = map run_of_writes gaps
@@ -66,8 +66,8 @@ abbrev pub epochs_name : EpochOffset → List Blocking → Text
 epochs_name offset intervals = runs_name (codes "epoch") (runs_of_epochs offset intervals)
 
 -- the epochs of an interval in a sentence
-abbrev pub epochs_in : IntervalNow → EpochOffset → Text
-epochs_in interval offset = runs_name (codes "epoch") (epochs_of offset interval ∷ [])
+abbrev pub interval_epochs : IntervalNow → EpochOffset → Text
+interval_epochs interval offset = runs_name (codes "epoch") (epochs_of offset interval ∷ [])
 
 -- the writes that a log lacks in a sentence
 abbrev pub writes_name : List Gap → Text

@@ -13,7 +13,7 @@ use Rattle.pgp_reasons.specs.declared.ways.Ways.TheVariants.{Any, Listed}
 use Rattle.pgp_group_words.specs.Text.{Text, joined, line, listed, each_after_first}
 use Rattle.pgp_group_words.specs.Names.{device_name, are}
 use Rattle.pgp_group_words.specs.Sentence.{sentence_of, few}
-use Rattle.pgp_group_words.specs.Spans.{epochs_in}
+use Rattle.pgp_group_words.specs.Spans.{interval_epochs}
 use Rattle.pgp_group_words.specs.declared.advice.Advice.{Advice}
 use Rattle.pgp_group_words.specs.declared.explanation.Explanation.{Explanation}
 use Rattle.pgp_group_words.specs.declared.offset.EpochOffset.{EpochOffset}
@@ -22,23 +22,23 @@ use Rattle.pgp_group_words.specs.declared.outcome.Then.{Then}
 
 -- ---- what a group is after a way
 
-abbrev pub is_waiting : Verdict → Bool
-is_waiting NoPrimary = false
-is_waiting Down = false
-is_waiting Waiting = true
-is_waiting Incomplete = false
-is_waiting Short = false
-is_waiting NeedLog = false
-is_waiting NeedUpThru = false
-is_waiting Serve = false
+abbrev pub has_to_wait : Verdict → Bool
+has_to_wait NoPrimary = false
+has_to_wait Down = false
+has_to_wait Waiting = true
+has_to_wait Incomplete = false
+has_to_wait Short = false
+has_to_wait NeedLog = false
+has_to_wait NeedUpThru = false
+has_to_wait Serve = false
 
 -- its acting set has too few members, or they hold too few shards
-abbrev pub is_short : Explanation → Bool
-is_short explanation = nat_lt (osd_count explanation.view.acting) explanation.min_size || nat_lt 0 explanation.reasons.short.lacks
+abbrev pub has_too_few : Explanation → Bool
+has_too_few explanation = nat_lt (osd_count explanation.view.acting) explanation.min_size || nat_lt 0 explanation.reasons.short.lacks
 
 -- that it has too few besides, where it has yet to hear members
 abbrev pub later_part : Explanation → Text
-later_part explanation = if is_waiting explanation.view.verdict && is_short explanation then codes " " ++ few explanation else []
+later_part explanation = if has_to_wait explanation.view.verdict && has_too_few explanation then codes " " ++ few explanation else []
 
 -- what is said of it
 unfoldable pub says_then : Explanation → EpochOffset → Text
@@ -54,13 +54,13 @@ start_part osds = if length osds == 0 then [] else joined (codes "start " ∷ li
 unfoldable pub lost_part : List ℕ → Text
 lost_part osds = if length osds == 0 then [] else joined (codes "declare " ∷ listed (map device_name osds) ∷ codes " lost" ∷ [])
 
-abbrev pub both_part : (starts losses : List ℕ) → Text
-both_part starts losses = if length starts == 0 then [] else (if length losses == 0 then [] else codes " and ")
+abbrev pub and_part : (starts losses : List ℕ) → Text
+and_part starts losses = if length starts == 0 then [] else (if length losses == 0 then [] else codes " and ")
 
 -- what is done
 unfoldable pub deed_line : Text → Outcome → Text
 deed_line before outcome = line (
-    codes "  " ∷ before ∷ start_part outcome.starts ∷ both_part outcome.starts outcome.losses ∷ lost_part outcome.losses ∷ [])
+    codes "  " ∷ before ∷ start_part outcome.starts ∷ and_part outcome.starts outcome.losses ∷ lost_part outcome.losses ∷ [])
 
 -- what the group is then
 abbrev pub then_line : Option Then → Text
@@ -70,7 +70,7 @@ then_line (Some after) = line (codes "    then " ∷ verdict_name after.verdict 
 -- that it goes on without the writes of an interval
 unfoldable pub without_line : EpochOffset → IntervalNow → Text → Text
 without_line offset interval why = line (
-    codes "    it goes on without what was written in " ∷ epochs_in interval offset ∷ codes ", at least: " ∷ why ∷ [])
+    codes "    it goes on without what was written in " ∷ interval_epochs interval offset ∷ codes ", at least: " ∷ why ∷ [])
 
 -- which devices that are down may have it
 unfoldable pub away_part : List ℕ → Text

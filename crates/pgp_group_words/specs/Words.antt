@@ -85,8 +85,8 @@ sender_part naming info = joined (
     ∷ [])
 
 -- what an info says
-unfoldable pub info_line : Naming → Info → Text
-info_line naming info = joined (
+unfoldable pub told_line : Naming → Info → Text
+told_line naming info = joined (
     sender_part naming info
     ∷ has_served (cluster_epoch naming.offset info.les)
     ∷ knows_of (cluster_epoch naming.offset info.history_les)
@@ -99,7 +99,7 @@ nobody_line (info ∷ infos) = []
 
 -- whom the group has heard
 unfoldable pub heard_lines : List Info → Naming → Text
-heard_lines infos naming = joined (codes "\nHeard:\n" ∷ nobody_line infos ∷ flat_map (info_line naming) infos ∷ [])
+heard_lines infos naming = joined (codes "\nHeard:\n" ∷ nobody_line infos ∷ flat_map (told_line naming) infos ∷ [])
 
 unfoldable pub member_line : Naming → Member → Text
 member_line naming member = line (codes "  " ∷ member_name naming member ∷ [])

@@ -3,7 +3,7 @@
 ghost use Rattle.std.specs.Prelude.{◌≡◌, ◌++◌, ◌∷◌, [], IfOk, OnOk, OnErr, string_bytes};
 ghost use Rattle.json.specs.Print.{print};
 ghost use Rattle.pgp_text.specs.Written.{fields_tokens, tokens_of};
-ghost use Rattle.pgp_group_words.specs.Json.{advice_data, json_of, place_fields, reason_fields, resort_fields, sentence_fields, verdict_fields};
+ghost use Rattle.pgp_group_words.specs.Json.{advice_data, advice_json, position_fields, reason_fields, resort_fields, sentence_fields, verdict_fields};
 
 use super::advice::Advice;
 use super::explanation::Explanation;
@@ -23,7 +23,7 @@ pub fn put_json(
     offset: EpochOffset,
     text: &mut String,
 ) -> Result<(), AllocError>
-    ensures ok { OnOk result (string_bytes text.new ≡ string_bytes text.old ++ json_of advice.now offset) }
+    ensures ok { OnOk result (string_bytes text.new ≡ string_bytes text.old ++ advice_json advice.now offset) }
     ensures err { OnErr result (string_bytes text.new ≡ string_bytes text.old) }
 {
     let line = line_of(alloc, advice, offset)?;
@@ -31,9 +31,9 @@ pub fn put_json(
 }
 
 /// The object in one line.
-#[tactic(auto, using(pgp_text::proofs::Tokens::text_steps), unfolding(crate::specs::Json::json_of))]
+#[tactic(auto, using(pgp_text::proofs::Tokens::text_steps), unfolding(crate::specs::Json::advice_json))]
 fn line_of(alloc: Global, advice: &Advice, offset: EpochOffset) -> Result<String, AllocError>
-    ensures { IfOk result (λ text. string_bytes text ≡ json_of advice.now offset) }
+    ensures { IfOk result (λ text. string_bytes text ≡ advice_json advice.now offset) }
 {
     let mut out = Writer::new(Vec::new(alloc));
     write_advice(alloc, &mut out, offset, advice)?;
@@ -69,7 +69,7 @@ fn write_place(
     explanation: &Explanation,
 ) -> Result<(), AllocError>
     ensures ok { OnOk result
-        (out.new.tokens ≡ out.old.tokens ++ fields_tokens (place_fields offset explanation.now)) }
+        (out.new.tokens ≡ out.old.tokens ++ fields_tokens (position_fields offset explanation.now)) }
     ensures before { out.new.before ≡ out.old.before }
 {
     let view = &explanation.view;

@@ -1,7 +1,7 @@
 //! A group in words.
 
 ghost use Rattle.std.specs.Prelude.{◌≡◌, ◌++◌, codes, flat_map, if◌then◌else◌, IfOk, OnOk, OnErr, string_bytes};
-ghost use Rattle.pgp_group_words.specs.Words.{acting_line, has_served, heading, heard_lines, hearing_lines, info_line, knows_of, last_resort_lines, place_lines, member_line, sender_part, served_line, unheard_lines, up_line, verdict_lines, words_of as words_of_group};
+ghost use Rattle.pgp_group_words.specs.Words.{acting_line, has_served, heading, heard_lines, hearing_lines, knows_of, last_resort_lines, place_lines, member_line, sender_part, served_line, told_line, unheard_lines, up_line, verdict_lines, words_of as words_of_group};
 
 use super::advice::Advice;
 use super::explanation::Explanation;
@@ -205,7 +205,7 @@ fn put_infos(
     text: &mut String,
 ) -> Result<(), AllocError>
     ensures { OnOk result (string_bytes text.new
-        ≡ string_bytes text.old ++ flat_map (info_line naming) infos.now) }
+        ≡ string_bytes text.old ++ flat_map (told_line naming) infos.now) }
 {
     for info in infos {
         put_info(alloc, info, naming, text)?;
@@ -213,10 +213,10 @@ fn put_infos(
     Ok(())
 }
 
-#[tactic(auto, unfolding(crate::specs::Words::info_line))]
+#[tactic(auto, unfolding(crate::specs::Words::told_line))]
 fn put_info(alloc: Global, info: &Info, naming: Naming, text: &mut String) -> Result<(), AllocError>
     ensures { OnOk result (string_bytes text.new
-        ≡ string_bytes text.old ++ info_line naming info.now) }
+        ≡ string_bytes text.old ++ told_line naming info.now) }
 {
     put_sender(alloc, info, naming, text)?;
     put_has_served(naming.epoch(info.les), text)?;

@@ -2,7 +2,7 @@
 
 ghost use Rattle.std.specs.Prelude.{◌≡◌, ◌++◌, OnOk};
 ghost use Rattle.pgp_text.specs.Written.{fields_tokens};
-ghost use Rattle.pgp_group_words.specs.Json.{blocking_data, copies_data, copy_fields, fate_fields, gap_data, info_data, interval_data, log_fields, span_fields, writes_name as name_of_writes};
+ghost use Rattle.pgp_group_words.specs.Json.{blocking_data, copies_data, copy_fields, fate_fields, fate_name, gap_data, info_data, interval_now_data, log_fields, span_fields};
 
 use super::offset::EpochOffset;
 use json::Writer;
@@ -59,7 +59,7 @@ fn write_log(out: &mut Writer, offset: EpochOffset, info: &Info) -> Result<(), A
 }
 
 impl Json<EpochOffset> for IntervalNow {
-    ghost value = { interval_data };
+    ghost value = { interval_now_data };
 
     #[tactic(auto, using(pgp_text::proofs::Tokens::token_steps))]
     fn write(&self, out: &mut Writer, offset: EpochOffset) -> Result<(), AllocError> {
@@ -106,7 +106,7 @@ fn write_fates(
 }
 
 fn writes_name(writes: Writes) -> &'static str
-    ensures { result.now ≡ name_of_writes writes }
+    ensures { result.now ≡ fate_name writes }
 {
     match writes {
         Writes::Readable => "readable",

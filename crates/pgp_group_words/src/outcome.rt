@@ -1,5 +1,5 @@
 ghost use Rattle.std.specs.Prelude.{◌≡◌, ◌++◌, IfOk, OnOk, string_bytes};
-ghost use Rattle.pgp_group_words.specs.WaysWords.{is_short as is_too_small, later_part, says_then};
+ghost use Rattle.pgp_group_words.specs.WaysWords.{has_too_few, later_part, says_then};
 
 use super::explanation::Explanation;
 use super::offset::EpochOffset;
@@ -62,7 +62,7 @@ fn put_later(alloc: Global, explanation: &Explanation, text: &mut String) -> Res
 
 /// Whether its acting set has too few members, or they hold too few shards.
 fn is_short(explanation: &Explanation) -> bool
-    ensures { result ≡ is_too_small explanation.now }
+    ensures { result ≡ has_too_few explanation.now }
 {
     explanation.view.acting.osd_count() < usize::from(explanation.min_size)
         || explanation.reasons.short.lacks > 0

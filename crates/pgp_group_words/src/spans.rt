@@ -1,7 +1,7 @@
 //! Runs of epochs and of writes in words.
 
 ghost use Rattle.std.specs.Prelude.{◌≡◌, ◌+◌, ◌==◌, ◌++◌, flat_map, IfOk, OnOk, string_bytes, codes};
-ghost use Rattle.pgp_group_words.specs.Spans.{epochs_in as epochs_in_of, epochs_name, epochs_of as reported_epochs, is_single as is_one_number, numbers_name, runs_name, runs_of_epochs as runs_of_intervals, runs_of_writes as runs_of_gaps, span_name, then_run, writes_name};
+ghost use Rattle.pgp_group_words.specs.Spans.{interval_epochs, epochs_name, epochs_of as reported_epochs, is_single as is_one_number, numbers_name, runs_name, runs_of_epochs as runs_of_intervals, runs_of_writes as runs_of_gaps, span_name, then_run, writes_name};
 
 use super::names::Naming;
 use super::offset::EpochOffset;
@@ -118,7 +118,7 @@ pub(crate) fn epochs_in(
     interval: &IntervalNow,
     naming: Naming,
 ) -> Result<String, AllocError>
-    ensures { IfOk result (λ text. string_bytes text ≡ epochs_in_of interval.now naming.offset) }
+    ensures { IfOk result (λ text. string_bytes text ≡ interval_epochs interval.now naming.offset) }
 {
     runs(
         alloc,

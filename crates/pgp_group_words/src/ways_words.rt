@@ -2,7 +2,7 @@
 
 ghost use Rattle.std.specs.Prelude.{◌≡◌, ◌++◌, [], codes, flat_map, IfOk, OnOk, string_bytes};
 ghost use Rattle.pgp_group_words.specs.Text.{each_after_first};
-ghost use Rattle.pgp_group_words.specs.WaysWords.{any_lines, away_part, both_part, deed_line, lost_part, more_line, outcome_lines, price_line, price_lines, resort_heading, resort_lines, shape_line, start_part, then_line, unreadable_line, ways_heading, ways_lines, without_line};
+ghost use Rattle.pgp_group_words.specs.WaysWords.{any_lines, and_part, away_part, deed_line, lost_part, more_line, outcome_lines, price_line, price_lines, resort_heading, resort_lines, shape_line, start_part, then_line, unreadable_line, ways_heading, ways_lines, without_line};
 
 use super::advice::Advice;
 use super::names::{Naming, are};
@@ -209,7 +209,7 @@ fn declared(alloc: Global, osds: &[OsdId], naming: Naming) -> Result<String, All
 
 /// What stands between the two.
 fn both(starts: &Seq<OsdId>, losses: &Seq<OsdId>) -> &'static str
-    ensures { result.now ≡ both_part starts.now losses.now }
+    ensures { result.now ≡ and_part starts.now losses.now }
 {
     if starts.is_empty() || losses.is_empty() {
         ""

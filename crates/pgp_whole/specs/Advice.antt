@@ -31,8 +31,8 @@ abbrev pub next_epoch : ℕ → ℕ
 next_epoch epoch = min (epoch + 1) (2 ^ 32 - 1)
 
 -- the incremental to this epoch that says which devices boot and which are lost, and leaves everything else as it is
-abbrev pub inc_with : ℕ → (up : List ℕ) → (lost : List DeviceEpoch) → Incremental
-inc_with epoch up lost =
+abbrev pub telling_inc : ℕ → (up : List ℕ) → (lost : List DeviceEpoch) → Incremental
+telling_inc epoch up lost =
     record {
       epoch = epoch;
       up = up;
@@ -49,7 +49,7 @@ inc_with epoch up lost =
 
 -- the one that boots these devices and declares those lost
 abbrev pub way_inc : ℕ → (starts losses : List ℕ) → Incremental
-way_inc epoch starts losses = inc_with epoch starts (map (lost_at_epoch epoch) losses)
+way_inc epoch starts losses = telling_inc epoch starts (map (lost_at_epoch epoch) losses)
 
 -- the entry that tells of the way, behind a log
 abbrev pub way_entry : List Entry → (starts losses : List ℕ) → Entry
@@ -78,18 +78,18 @@ IsAfterWay log pg offset starts losses after =
     IsToldUnless (fits log (way_entry log starts losses)) (log ++ way_entry log starts losses ∷ []) pg offset after
 
 -- the outcome of a way is so by the log
-pub record IsOutcome (log : List Entry) (pg : PgId) (offset : EpochOffset) (outcome : Outcome) : Type 0 where
+pub record IsOutcomeOfChoice (log : List Entry) (pg : PgId) (offset : EpochOffset) (outcome : Outcome) : Type 0 where
   pub after_is : IsAfterWay log pg offset outcome.starts outcome.losses outcome.after
   pub price_is : (g : GroupLog) → group_in log pg ≡ Some g → outcome.price ≡ price outcome.starts outcome.losses g
 
 -- ---- which ways are told
 
 -- which devices boot, and which are declared lost
-abbrev pub choice : (starts losses : List ℕ) → Choice
-choice starts losses = record { starts = starts; losses = losses }
+abbrev pub choice_with : (starts losses : List ℕ) → Choice
+choice_with starts losses = record { starts = starts; losses = losses }
 
 abbrev pub choice_of : Outcome → Choice
-choice_of outcome = choice outcome.starts outcome.losses
+choice_of outcome = choice_with outcome.starts outcome.losses
 
 -- Sets of devices to start: those that are listed; where any so many of some devices will do, each device if one is enough, and
 -- else the first so many.
@@ -102,15 +102,15 @@ told_sets (Listed listed) = listed.sets
 
 -- all of the set boot
 abbrev pub all_start : List ℕ → Choice
-all_start set = choice set []
+all_start set = choice_with set []
 
 -- one of the set is declared lost, and the others boot
 abbrev pub one_lost : List ℕ → List Choice
-one_lost set = map (λ osd. choice (filter (λ other. not (nat_eq other osd)) set) (osd ∷ [])) set
+one_lost set = map (λ osd. choice_with (filter (λ other. not (nat_eq other osd)) set) (osd ∷ [])) set
 
 -- all of the set are declared lost, where they are more than one
 abbrev pub all_lost : List ℕ → List Choice
-all_lost set = if nat_le (length set) 1 then [] else choice [] set ∷ []
+all_lost set = if nat_le (length set) 1 then [] else choice_with [] set ∷ []
 
 -- how many ways that declare devices lost are told at most
 abbrev pub most_resorts : ℕ
@@ -123,7 +123,7 @@ resorts sets = take most_resorts (flat_map one_lost sets ++ flat_map all_lost se
 -- these are the outcomes of these choices
 pub record AreOutcomes (log : List Entry) (pg : PgId) (offset : EpochOffset) (choices : List Choice) (outcomes : List Outcome) : Type 0 where
   pub choices_are : map choice_of outcomes ≡ choices
-  pub each : All (IsOutcome log pg offset) outcomes
+  pub each : All (IsOutcomeOfChoice log pg offset) outcomes
 
 -- and these are those of the ways that declare devices of these sets lost, where these are wanted
 abbrev pub AreResorts : Bool → List Entry → PgId → EpochOffset → List (List ℕ) → Option (List Outcome) → Type 0

@@ -7,7 +7,7 @@ use Rattle.pgp_group.specs.View.{scratch}
 use Rattle.pgp_lines.specs.declared.command.format.Format.{Format}
 use Rattle.pgp_core.specs.Output.{FrontWent}
 use Rattle.pgp_core.specs.declared.whole.WholeFault.TheVariants.{Read, TooLarge, Memory}
-use Rattle.pgp_group_words.specs.Json.{json_of}
+use Rattle.pgp_group_words.specs.Json.{advice_json}
 use Rattle.pgp_group_words.specs.Text.{Text}
 use Rattle.pgp_group_words.specs.Words.{words_of}
 use Rattle.pgp_group_words.specs.declared.advice.Advice.{Advice}
@@ -33,7 +33,7 @@ question format pg losses json epoch_offset = record { format = format; pg = pg;
 
 -- as JSON, or else in words
 abbrev pub group_text : Bool → Advice → EpochOffset → Text
-group_text json advice offset = if json then json_of advice offset else words_of advice offset
+group_text json advice offset = if json then advice_json advice offset else words_of advice offset
 
 -- this text says what there is to say of the group by the log
 pub record IsGroupText (log : List Entry) (pg : PgId) (losses json : Bool) (offset : EpochOffset) (text : Text) : Type 0 where

@@ -51,8 +51,8 @@ frees_part count = if count == 0 then [] else joined (codes ", and alone frees "
 unfoldable pub awaited_part : ℕ → Text
 awaited_part count = if count == 0 then [] else count_part (codes "has yet to be heard by") count
 
-unfoldable pub both_part : Waits → Text
-both_part waits = if nat_lt 0 waits.blocks && nat_lt 0 waits.awaited then codes ", and " else []
+unfoldable pub between_part : Waits → Text
+between_part waits = if nat_lt 0 waits.blocks && nat_lt 0 waits.awaited then codes ", and " else []
 
 -- how many groups a device blocks, how many of them it frees alone, and how many wait to hear from it
 unfoldable pub device_line : Awaited → Text
@@ -61,7 +61,7 @@ device_line device = line (
     ∷ codes " "
     ∷ blocks_part device.1.blocks
     ∷ frees_part device.1.frees
-    ∷ both_part device.1
+    ∷ between_part device.1
     ∷ awaited_part device.1.awaited
     ∷ [])
 

@@ -3,7 +3,7 @@
 ghost use Rattle.std.specs.Prelude.{◌≡◌, Some, None, map as mapped, IfOk, IfSome, IfNone};
 ghost use Rattle.pgp_reasons.specs.GroupWays.{lost_at_epoch};
 ghost use Rattle.pgp_group.specs.View.{scratch};
-ghost use Rattle.pgp_whole.specs.Advice.{AreOutcomes, AreResorts, IsAdvice, IsAfterWay, IsOutcome, IsToldBy, all_start, choice_of, inc_with, next_epoch, way_inc};
+ghost use Rattle.pgp_whole.specs.Advice.{AreOutcomes, AreResorts, IsAdvice, IsAfterWay, IsOutcomeOfChoice, IsToldBy, all_start, choice_of, telling_inc, next_epoch, way_inc};
 
 use super::choice::{Choice, copy, resorts, starts, told_sets};
 use super::groups::explanation_of;
@@ -107,7 +107,7 @@ fn outcome_of(
     offset: EpochOffset,
 ) -> Result<Outcome, AllocError>
     ensures choice { IfOk result (λ outcome. choice_of outcome ≡ choice.now) }
-    ensures is { IfOk result (λ outcome. scratch log.now pg.now ≡ Some view.now → IsOutcome log.now pg.now offset outcome) }
+    ensures is { IfOk result (λ outcome. scratch log.now pg.now ≡ Some view.now → IsOutcomeOfChoice log.now pg.now offset outcome) }
 {
     let starts = choice.starts.as_slice();
     let losses = choice.losses.as_slice();
@@ -184,7 +184,7 @@ fn inc_of(
     booted: Seq<OsdId>,
     given_up: Seq<DeviceEpoch>,
 ) -> Incremental
-    ensures { result ≡ inc_with epoch booted given_up }
+    ensures { result ≡ telling_inc epoch booted given_up }
 {
     Incremental {
         epoch,

@@ -1,7 +1,7 @@
 //! Which ways to end that a group is down are told.
 
 ghost use Rattle.std.specs.Prelude.{◌≡◌, ◌++◌, ◌∷◌, [], not, nat_eq, map as mapped, filter as filtered, flat_map, take, IfOk, OnOk};
-ghost use Rattle.pgp_whole.specs.Advice.{all_lost, all_start, any_sets, choice, one_lost, resorts as last_resorts, told_sets};
+ghost use Rattle.pgp_whole.specs.Advice.{all_lost, all_start, any_sets, one_lost, resorts as last_resorts, told_sets};
 
 use pgp_ids::{OsdId, Seq};
 use pgp_reasons::Ways;

@@ -1,7 +1,7 @@
 //! A summary in words.
 
 ghost use Rattle.std.specs.Prelude.{◌≡◌, ◌++◌, flat_map, IfOk, OnOk, string_bytes};
-ghost use Rattle.pgp_whole.specs.SummaryText.{awaited_part, blocks_part, both_part, count_part, device_line, device_lines, frees_part, summary_words, tally_lines, total_line, verdict_line};
+ghost use Rattle.pgp_whole.specs.SummaryText.{awaited_part, between_part, blocks_part, count_part, device_line, device_lines, frees_part, summary_words, tally_lines, total_line, verdict_line};
 
 use super::summary::Summary;
 use super::tally::Tally;
@@ -123,9 +123,9 @@ fn put_device(device: &(OsdId, Waits), text: &mut String) -> Result<(), AllocErr
 }
 
 /// What stands between the two counts.
-#[tactic(auto, unfolding(crate::specs::SummaryText::both_part))]
+#[tactic(auto, unfolding(crate::specs::SummaryText::between_part))]
 fn both(waits: Waits) -> &'static str
-    ensures { result.now ≡ both_part waits }
+    ensures { result.now ≡ between_part waits }
 {
     if waits.blocks > 0 && waits.awaited > 0 {
         ", and "

@@ -3,7 +3,7 @@ use Rattle.std.specs.List.{All}
 use Rattle.std.proofs.lemmas.List.{map-append, take_all, take_more}
 use Rattle.std.proofs.lemmas.List.Elements.{All-push}
 use Rattle.pgp_group_words.specs.declared.outcome.Outcome.{Outcome}
-use Rattle.pgp_whole.specs.Advice.{AreOutcomes, IsOutcome, choice_of}
+use Rattle.pgp_whole.specs.Advice.{AreOutcomes, IsOutcomeOfChoice, choice_of}
 use Rattle.pgp_whole.specs.declared.choice.Choice.{Choice}
 use Rattle.pgp_whole.proofs.advice.outcomes_of.Goals as goal
 
@@ -11,7 +11,7 @@ pub loop-choice-preserved : goal.loop-choice-preserved
 loop-choice-preserved c = λ viewed.
     let i : ℕ = c.loop-choice.choice-index in
     let choices : List Choice = c.args.choices.now in
-    let is : Outcome → Type 0 = IsOutcome c.args.log.now c.args.pg.now c.args.offset in
+    let is : Outcome → Type 0 = IsOutcomeOfChoice c.args.log.now c.args.pg.now c.args.offset in
     let was = c.loop-choice.invariant viewed in
     let more : take (i + 1) choices ≡ take i choices ++ c.choice-item.result ∷ [] =
     take_more choices i c.choice-item.result c.loop-choice-test.true ∙ ap (λ choice. take i choices ++ choice ∷ []) (sym c.choice-item.is) in
