@@ -124,6 +124,18 @@ uint32_t pgp_open(pgp_session *session);
  * isn't open. */
 uint32_t pgp_open_format(pgp_session *session, uint32_t format);
 
+/* Opens a session with the log that these lines make, each ended by a line feed, the last perhaps without: PGP_DONE, and *refused is
+ * how many of them `pgpeer run` would refuse. They add nothing to the log, and neither do questions and blank lines. Nothing is
+ * answered: the answer to the last line has no bytes. At PGP_ALREADY_OPEN the session stays as it was; at PGP_BAD_ARGUMENT, where
+ * `format` is no version as in pgp_open_format, and at PGP_NO_MEMORY it isn't open. There *refused is 0. */
+uint32_t pgp_open_lines(pgp_session *session, uint32_t format, const uint8_t *text, size_t text_length, size_t *refused);
+
+/* Opens `copy` with the log of `session`, which stays as it was: PGP_DONE. From then on each is told and asked by itself, also on two
+ * threads at once: what both have is never written, and is freed with the last of them. At PGP_ALREADY_OPEN, where `copy` is open, it
+ * stays as it was. At PGP_NOT_OPEN, where `session` isn't, and at PGP_NO_MEMORY it isn't open. The answer to the last line isn't
+ * copied. */
+uint32_t pgp_open_copy(pgp_session *copy, pgp_session *session);
+
 /* Ends a session and frees all that it has: PGP_DONE, or PGP_NOT_OPEN. It may be opened again. */
 uint32_t pgp_close(pgp_session *session);
 
@@ -274,6 +286,193 @@ uint32_t pgp_submit_info(pgp_session *session, const pgp_info *info);
  * there and at PGP_NOT_OPEN *left_out is 0. The answer to the last line is kept. The new log is made beside the old one: until it is
  * there, both take memory. */
 uint32_t pgp_compact_log(pgp_session *session, size_t *left_out);
+
+/* Of each entry of the session's log whether pgp_compact_log would leave it in: puts 1 or 0 for each, in the order in which they were
+ * told, at the start of the room, and how many entries there are into *count: PGP_DONE. At PGP_ROOM_TOO_SMALL, PGP_NO_MEMORY and
+ * PGP_NOT_OPEN the room stays as it was; *count is 0 at the last two. The session stays as it was. So a caller that keeps what the
+ * log took, in order, keeps those with a 1 before it calls pgp_compact_log. */
+uint32_t pgp_needed(pgp_session *session, uint8_t *room, size_t room_length, size_t *count);
+
+/* Puts the lines that remain of a script, byte for byte what `pgpeer compact` writes for it, at the start of the room, and their
+ * length into *length: PGP_DONE. Their length is at most text_length + 1. At PGP_ROOM_TOO_SMALL, PGP_NO_MEMORY and PGP_BAD_ARGUMENT,
+ * where `format` is no version as in pgp_open_format, the room stays as it was; *length is 0 at the last two. No session is part of
+ * it. */
+uint32_t pgp_compact_lines(uint32_t format, const uint8_t *text, size_t text_length, uint8_t *room, size_t room_length, size_t *length);
+
+/* What a session knows without a group. */
+typedef struct pgp_log {
+    size_t count;            /* how many entries its log has */
+    size_t incs;             /* how many of them are incrementals, */
+    size_t infos;            /* infos */
+    size_t reports;          /* and parts of members' logs */
+    uint32_t epoch;          /* of the last map, 0 before the first */
+    uint8_t closed;          /* 1 where the log takes no further entry, else 0 */
+} pgp_log;
+
+/* Puts what the session knows of its log into *log: PGP_DONE, or PGP_NOT_OPEN, where *log stays as it was. It takes no memory, and
+ * time for each entry. The session stays as it was. */
+uint32_t pgp_ask_log(pgp_session *session, pgp_log *log);
+
+/* Works out up to `max` of the groups that no question or call of this worked out since something touched them, and puts how many are
+ * left into *left: PGP_DONE. At PGP_NO_MEMORY and PGP_NOT_OPEN *left is 0. Log and answers stay as they were.
+ *
+ * What stalls without it: the first question after pgp_open_lines, pgp_open_copy and pgp_compact_log reads the whole log, and each
+ * group is worked out by the first question about it. The first call of this reads the log too, also where `max` is 0. */
+uint32_t pgp_work_out(pgp_session *session, size_t max, size_t *left);
+
+/* A placement group. */
+typedef struct pgp_group {
+    uint16_t pool;
+    uint16_t pg;
+} pgp_group;
+
+/* Puts the groups of which pgp_ask or a list may say something else than before the entry at place `since` of the session's log, from
+ * 0 on, into the room, each once, as the calls of lists put a list. The count of entries and the epoch of a view are no matter. For a
+ * place behind the log's last entry there are none. At PGP_ROOM_TOO_SMALL, PGP_NO_MEMORY and PGP_NOT_OPEN the room stays as it was;
+ * *count is 0 at the last two. Log and answers stay as they were. */
+uint32_t pgp_changed(pgp_session *session, size_t since, pgp_group *room, size_t room_length, size_t *count);
+
+/* Ends the session's log, as the line of op "close" does: the statuses of pgp_submit_info, without PGP_BAD_ARGUMENT. */
+uint32_t pgp_submit_close(pgp_session *session);
+
+/* A part of a member's log. */
+typedef struct pgp_report {
+    uint32_t pool;           /* 1 to 255 */
+    uint32_t pg;             /* 0 to 1023 */
+    uint32_t osd;            /* the device that sent it, 0 to 4095 */
+    uint32_t slot;           /* its slot, 0 to 15 */
+    uint32_t stamp;          /* the sender's epoch */
+} pgp_report;
+
+/* An entry of a member's log: a write of an object. */
+typedef struct pgp_log_entry {
+    uint32_t epoch;          /* the write: its epoch and its number */
+    uint32_t number;
+    uint8_t deletes;         /* 1 where it deletes the object, 0 where it makes or changes it */
+    uint8_t name_length;     /* how many bytes the name has, 1 to 255 */
+    uint8_t name[255];       /* the name, in UTF-8; what is behind it is no matter */
+} pgp_log_entry;
+
+/* Tells a session a part of a member's log, of 1 to 256 entries in any order, as the line of op "entries" does. The statuses are those
+ * of pgp_submit_info. PGP_NO_MEMORY may also come for what the log doesn't take. Nothing of the caller's is kept. */
+uint32_t pgp_submit_entries(pgp_session *session, const pgp_report *report, const pgp_log_entry *log, size_t log_length);
+
+/* A device with its weight in units of 1/0x10000, or with an epoch. */
+typedef struct pgp_device_value {
+    uint32_t osd;            /* 0 to 4095 */
+    uint32_t value;
+} pgp_device_value;
+
+/* How a pool keeps its objects. */
+enum {
+    PGP_REPLICATED = 0,
+    PGP_ERASURE = 1,
+    PGP_GROUPED = 2
+};
+
+/* A part of a grouped pool's code. */
+typedef struct pgp_part {
+    uint16_t slots;          /* the bit 1 << slot for each slot of it */
+    uint8_t least;           /* how many of them have to be at hand */
+} pgp_part;
+
+/* A pool that is made, as the pool object of a line. */
+typedef struct pgp_pool {
+    uint32_t id;             /* 1 to 255 */
+    uint16_t pg_num;
+    uint8_t kind;            /* PGP_REPLICATED, PGP_ERASURE or PGP_GROUPED */
+    uint8_t k;               /* of an erasure pool; of others it is no matter */
+    uint8_t size;
+    uint8_t min_size;
+    uint8_t leaf;
+    uint8_t parts_length;    /* of a grouped pool: how many parts it has, at most 16 */
+    pgp_part parts[16];
+} pgp_pool;
+
+/* New sizes of a pool. */
+typedef struct pgp_sizes {
+    uint32_t pool;           /* 1 to 255 */
+    uint8_t size;
+    uint8_t min_size;
+} pgp_sizes;
+
+/* A pg_temp list. With no place it takes the group's away. */
+typedef struct pgp_temp {
+    uint32_t pool;           /* 1 to 255 */
+    uint32_t pg;             /* 0 to 1023 */
+    uint32_t length;         /* how many places it has, at most 16 */
+    uint16_t osds[16];       /* devices, and PGP_NO_DEVICE at an empty place */
+} pgp_temp;
+
+/* How a bucket chooses. */
+enum {
+    PGP_UNIFORM = 0,
+    PGP_LIST = 1,
+    PGP_STRAW2 = 2           /* in a session that reads lines of version 3 alone */
+};
+
+/* A bucket of a tree. Its items, and but for a uniform one as many weights, are the next ones of the lists of all buckets. */
+typedef struct pgp_bucket {
+    int32_t id;              /* -65536 to -1 */
+    uint8_t type;            /* 0 to 255 */
+    uint8_t alg;             /* PGP_UNIFORM, PGP_LIST or PGP_STRAW2 */
+    uint16_t items;          /* how many items it has */
+} pgp_bucket;
+
+/* An incremental: the epoch to which it leads, and its lists, each with its length. A list without an item may have a null pointer
+ * here alone. */
+typedef struct pgp_inc {
+    uint32_t epoch;
+    uint32_t has_tree;       /* 1 where it has a tree, else 0: then the lists of buckets, items and weights are no matter */
+    const uint16_t *up;
+    size_t up_length;
+    const uint16_t *down;
+    size_t down_length;
+    const uint16_t *gone;
+    size_t gone_length;
+    const pgp_device_value *weight;
+    size_t weight_length;
+    const pgp_device_value *up_thru;
+    size_t up_thru_length;
+    const pgp_device_value *lost;
+    size_t lost_length;
+    const pgp_pool *pools;
+    size_t pools_length;
+    const pgp_sizes *sizes;
+    size_t sizes_length;
+    const pgp_temp *temp;
+    size_t temp_length;
+    const pgp_bucket *buckets;
+    size_t buckets_length;
+    const int32_t *items;    /* -65536 to 65535: a bucket, or a device */
+    size_t items_length;
+    const uint32_t *weights; /* in units of 1/0x10000 */
+    size_t weights_length;
+} pgp_inc;
+
+/* Tells a session an incremental, as the line of op "inc" does: PGP_DONE where the log takes it. At any other status the log is as
+ * before: the number of the refusal (PGP_EPOCH_GAP to PGP_TREE_FAULT, PGP_LOG_FULL, PGP_CLOSED), PGP_BAD_ARGUMENT where a number isn't
+ * in its range, where buckets want other items and weights than there are, and where the session doesn't read the version of a tree,
+ * PGP_NO_MEMORY or PGP_NOT_OPEN. Nothing of the caller's is kept. The answer to the last line is. Each list is an argument: */
+uint32_t pgp_submit_incremental(pgp_session *session, uint32_t epoch, const uint16_t *up, size_t up_length, const uint16_t *down,
+                                size_t down_length, const uint16_t *gone, size_t gone_length, const pgp_device_value *weight,
+                                size_t weight_length, const pgp_device_value *up_thru, size_t up_thru_length,
+                                const pgp_device_value *lost, size_t lost_length, const pgp_pool *pools, size_t pools_length,
+                                const pgp_sizes *sizes, size_t sizes_length, const pgp_temp *temp, size_t temp_length,
+                                uint32_t has_tree, const pgp_bucket *buckets, size_t buckets_length, const int32_t *items,
+                                size_t items_length, const uint32_t *weights, size_t weights_length);
+
+/* The same of the struct. */
+static inline uint32_t pgp_submit_inc(pgp_session *session, const pgp_inc *inc) {
+#define PGP_LIST_OF(type, list) inc->list##_length ? inc->list : (const type *)inc, inc->list##_length
+    return pgp_submit_incremental(session, inc->epoch, PGP_LIST_OF(uint16_t, up), PGP_LIST_OF(uint16_t, down),
+                                  PGP_LIST_OF(uint16_t, gone), PGP_LIST_OF(pgp_device_value, weight),
+                                  PGP_LIST_OF(pgp_device_value, up_thru), PGP_LIST_OF(pgp_device_value, lost),
+                                  PGP_LIST_OF(pgp_pool, pools), PGP_LIST_OF(pgp_sizes, sizes), PGP_LIST_OF(pgp_temp, temp),
+                                  inc->has_tree, PGP_LIST_OF(pgp_bucket, buckets), PGP_LIST_OF(int32_t, items),
+                                  PGP_LIST_OF(uint32_t, weights));
+#undef PGP_LIST_OF
+}
 
 /* The version of the library: ten thousand times the first part, a hundred times the second, and the third. */
 uint32_t pgp_version(void);
