@@ -11,12 +11,17 @@
  * - A pgp_session is filled with zeros before its first call, and else is as the last call left it. Its fields are neither read
  *   nor written. It may be moved, but of two copies only one is ever used.
  * - A session is given to one call at a time. It may go from thread to thread, where a lock, the start or the end of a thread
- *   that is waited for, or an atomic in sequentially consistent order stands between its calls. Two sessions share nothing.
+ *   that is waited for, or an atomic in sequentially consistent order stands between its calls. Two sessions share nothing that is
+ *   written, also where one was opened as a copy of the other.
  * - No call is made from a signal handler, or in the child that a process with threads forked.
  *
  * A line and a name are as many bytes as is said: a NUL among them ends neither.
  *
  * Anything else that is wrong has a status. The library takes memory by malloc, realloc and free.
+ *
+ * What takes long: pgp_open_lines, pgp_open_copy and pgp_compact_log read the whole log. So does the first question about a group
+ * after one of them, and the first about each group works that out. bench/README.md has the times. A caller that can't wait does so
+ * in a copy of the session, on another thread, tells the copy what came since, and goes on with that.
  */
 #ifndef PGPEER_H
 #define PGPEER_H
@@ -32,7 +37,7 @@ extern "C" {
 /* The version of this header, in parts and as pgp_version gives it. */
 #define PGP_VERSION_MAJOR 0
 #define PGP_VERSION_MINOR 1
-#define PGP_VERSION_PATCH 0
+#define PGP_VERSION_PATCH 1
 #define PGP_VERSION (PGP_VERSION_MAJOR * 10000 + PGP_VERSION_MINOR * 100 + PGP_VERSION_PATCH)
 
 /* A session. `pgp_session session = PGP_SESSION;` has it filled with zeros. */
@@ -59,7 +64,7 @@ enum {
     /* pgp_locate */
     PGP_UNKNOWN_POOL = 42,
 
-    /* pgp_submit_info: the log doesn't take the entry */
+    /* pgp_submit_info, pgp_submit_entries, pgp_submit_close: the log doesn't take the entry */
     PGP_LOG_FULL = 50,
     PGP_UNKNOWN_GROUP = 60,
     PGP_UNKNOWN_MEMBER = 61,
@@ -238,7 +243,7 @@ typedef struct pgp_peer {
 /* Each puts a list of what the session's log says of a group at the start of the room, which has places for `room_length` of
  * them, and how many they are into *count: PGP_DONE. PGP_ROOM_TOO_SMALL says by *count how many places it wants, and leaves the
  * room as it was. At any other status, which are those of pgp_ask, the room stays as it was too, and *count is 0. The session
- * stays as it was. */
+ * stays as it was. The list is put from where the session keeps the view, which isn't copied. */
 uint32_t pgp_probe(pgp_session *session, uint32_t pool, uint32_t pg, pgp_member *room, size_t room_length, size_t *count);
 uint32_t pgp_blocked_by(pgp_session *session, uint32_t pool, uint32_t pg, uint16_t *room, size_t room_length, size_t *count);
 uint32_t pgp_intervals(pgp_session *session, uint32_t pool, uint32_t pg, pgp_interval *room, size_t room_length, size_t *count);
@@ -293,12 +298,6 @@ uint32_t pgp_compact_log(pgp_session *session, size_t *left_out);
  * log took, in order, keeps those with a 1 before it calls pgp_compact_log. */
 uint32_t pgp_needed(pgp_session *session, uint8_t *room, size_t room_length, size_t *count);
 
-/* Puts the lines that remain of a script, byte for byte what `pgpeer compact` writes for it, at the start of the room, and their
- * length into *length: PGP_DONE. Their length is at most text_length + 1. At PGP_ROOM_TOO_SMALL, PGP_NO_MEMORY and PGP_BAD_ARGUMENT,
- * where `format` is no version as in pgp_open_format, the room stays as it was; *length is 0 at the last two. No session is part of
- * it. */
-uint32_t pgp_compact_lines(uint32_t format, const uint8_t *text, size_t text_length, uint8_t *room, size_t room_length, size_t *length);
-
 /* What a session knows without a group. */
 typedef struct pgp_log {
     size_t count;            /* how many entries its log has */
@@ -312,25 +311,6 @@ typedef struct pgp_log {
 /* Puts what the session knows of its log into *log: PGP_DONE, or PGP_NOT_OPEN, where *log stays as it was. It takes no memory, and
  * time for each entry. The session stays as it was. */
 uint32_t pgp_ask_log(pgp_session *session, pgp_log *log);
-
-/* Works out up to `max` of the groups that no question or call of this worked out since something touched them, and puts how many are
- * left into *left: PGP_DONE. At PGP_NO_MEMORY and PGP_NOT_OPEN *left is 0. Log and answers stay as they were.
- *
- * What stalls without it: the first question after pgp_open_lines, pgp_open_copy and pgp_compact_log reads the whole log, and each
- * group is worked out by the first question about it. The first call of this reads the log too, also where `max` is 0. */
-uint32_t pgp_work_out(pgp_session *session, size_t max, size_t *left);
-
-/* A placement group. */
-typedef struct pgp_group {
-    uint16_t pool;
-    uint16_t pg;
-} pgp_group;
-
-/* Puts the groups of which pgp_ask or a list may say something else than before the entry at place `since` of the session's log, from
- * 0 on, into the room, each once, as the calls of lists put a list. The count of entries and the epoch of a view are no matter. For a
- * place behind the log's last entry there are none. At PGP_ROOM_TOO_SMALL, PGP_NO_MEMORY and PGP_NOT_OPEN the room stays as it was;
- * *count is 0 at the last two. Log and answers stay as they were. */
-uint32_t pgp_changed(pgp_session *session, size_t since, pgp_group *room, size_t room_length, size_t *count);
 
 /* Ends the session's log, as the line of op "close" does: the statuses of pgp_submit_info, without PGP_BAD_ARGUMENT. */
 uint32_t pgp_submit_close(pgp_session *session);
@@ -356,123 +336,6 @@ typedef struct pgp_log_entry {
 /* Tells a session a part of a member's log, of 1 to 256 entries in any order, as the line of op "entries" does. The statuses are those
  * of pgp_submit_info. PGP_NO_MEMORY may also come for what the log doesn't take. Nothing of the caller's is kept. */
 uint32_t pgp_submit_entries(pgp_session *session, const pgp_report *report, const pgp_log_entry *log, size_t log_length);
-
-/* A device with its weight in units of 1/0x10000, or with an epoch. */
-typedef struct pgp_device_value {
-    uint32_t osd;            /* 0 to 4095 */
-    uint32_t value;
-} pgp_device_value;
-
-/* How a pool keeps its objects. */
-enum {
-    PGP_REPLICATED = 0,
-    PGP_ERASURE = 1,
-    PGP_GROUPED = 2
-};
-
-/* A part of a grouped pool's code. */
-typedef struct pgp_part {
-    uint16_t slots;          /* the bit 1 << slot for each slot of it */
-    uint8_t least;           /* how many of them have to be at hand */
-} pgp_part;
-
-/* A pool that is made, as the pool object of a line. */
-typedef struct pgp_pool {
-    uint32_t id;             /* 1 to 255 */
-    uint16_t pg_num;
-    uint8_t kind;            /* PGP_REPLICATED, PGP_ERASURE or PGP_GROUPED */
-    uint8_t k;               /* of an erasure pool; of others it is no matter */
-    uint8_t size;
-    uint8_t min_size;
-    uint8_t leaf;
-    uint8_t parts_length;    /* of a grouped pool: how many parts it has, at most 16 */
-    pgp_part parts[16];
-} pgp_pool;
-
-/* New sizes of a pool. */
-typedef struct pgp_sizes {
-    uint32_t pool;           /* 1 to 255 */
-    uint8_t size;
-    uint8_t min_size;
-} pgp_sizes;
-
-/* A pg_temp list. With no place it takes the group's away. */
-typedef struct pgp_temp {
-    uint32_t pool;           /* 1 to 255 */
-    uint32_t pg;             /* 0 to 1023 */
-    uint32_t length;         /* how many places it has, at most 16 */
-    uint16_t osds[16];       /* devices, and PGP_NO_DEVICE at an empty place */
-} pgp_temp;
-
-/* How a bucket chooses. */
-enum {
-    PGP_UNIFORM = 0,
-    PGP_LIST = 1,
-    PGP_STRAW2 = 2           /* in a session that reads lines of version 3 alone */
-};
-
-/* A bucket of a tree. Its items, and but for a uniform one as many weights, are the next ones of the lists of all buckets. */
-typedef struct pgp_bucket {
-    int32_t id;              /* -65536 to -1 */
-    uint8_t type;            /* 0 to 255 */
-    uint8_t alg;             /* PGP_UNIFORM, PGP_LIST or PGP_STRAW2 */
-    uint16_t items;          /* how many items it has */
-} pgp_bucket;
-
-/* An incremental: the epoch to which it leads, and its lists, each with its length. A list without an item may have a null pointer
- * here alone. */
-typedef struct pgp_inc {
-    uint32_t epoch;
-    uint32_t has_tree;       /* 1 where it has a tree, else 0: then the lists of buckets, items and weights are no matter */
-    const uint16_t *up;
-    size_t up_length;
-    const uint16_t *down;
-    size_t down_length;
-    const uint16_t *gone;
-    size_t gone_length;
-    const pgp_device_value *weight;
-    size_t weight_length;
-    const pgp_device_value *up_thru;
-    size_t up_thru_length;
-    const pgp_device_value *lost;
-    size_t lost_length;
-    const pgp_pool *pools;
-    size_t pools_length;
-    const pgp_sizes *sizes;
-    size_t sizes_length;
-    const pgp_temp *temp;
-    size_t temp_length;
-    const pgp_bucket *buckets;
-    size_t buckets_length;
-    const int32_t *items;    /* -65536 to 65535: a bucket, or a device */
-    size_t items_length;
-    const uint32_t *weights; /* in units of 1/0x10000 */
-    size_t weights_length;
-} pgp_inc;
-
-/* Tells a session an incremental, as the line of op "inc" does: PGP_DONE where the log takes it. At any other status the log is as
- * before: the number of the refusal (PGP_EPOCH_GAP to PGP_TREE_FAULT, PGP_LOG_FULL, PGP_CLOSED), PGP_BAD_ARGUMENT where a number isn't
- * in its range, where buckets want other items and weights than there are, and where the session doesn't read the version of a tree,
- * PGP_NO_MEMORY or PGP_NOT_OPEN. Nothing of the caller's is kept. The answer to the last line is. Each list is an argument: */
-uint32_t pgp_submit_incremental(pgp_session *session, uint32_t epoch, const uint16_t *up, size_t up_length, const uint16_t *down,
-                                size_t down_length, const uint16_t *gone, size_t gone_length, const pgp_device_value *weight,
-                                size_t weight_length, const pgp_device_value *up_thru, size_t up_thru_length,
-                                const pgp_device_value *lost, size_t lost_length, const pgp_pool *pools, size_t pools_length,
-                                const pgp_sizes *sizes, size_t sizes_length, const pgp_temp *temp, size_t temp_length,
-                                uint32_t has_tree, const pgp_bucket *buckets, size_t buckets_length, const int32_t *items,
-                                size_t items_length, const uint32_t *weights, size_t weights_length);
-
-/* The same of the struct. */
-static inline uint32_t pgp_submit_inc(pgp_session *session, const pgp_inc *inc) {
-#define PGP_LIST_OF(type, list) inc->list##_length ? inc->list : (const type *)inc, inc->list##_length
-    return pgp_submit_incremental(session, inc->epoch, PGP_LIST_OF(uint16_t, up), PGP_LIST_OF(uint16_t, down),
-                                  PGP_LIST_OF(uint16_t, gone), PGP_LIST_OF(pgp_device_value, weight),
-                                  PGP_LIST_OF(pgp_device_value, up_thru), PGP_LIST_OF(pgp_device_value, lost),
-                                  PGP_LIST_OF(pgp_pool, pools), PGP_LIST_OF(pgp_sizes, sizes), PGP_LIST_OF(pgp_temp, temp),
-                                  inc->has_tree, PGP_LIST_OF(pgp_bucket, buckets), PGP_LIST_OF(int32_t, items),
-                                  PGP_LIST_OF(uint32_t, weights));
-#undef PGP_LIST_OF
-}
 
 /* The version of the library: ten thousand times the first part, a hundred times the second, and the third. */
 uint32_t pgp_version(void);

@@ -2,5 +2,8 @@ pub mod ArenaSend
 pub mod AsBox
 pub mod AskLemmas
 pub mod EachLemmas
-pub mod InfoLemmas
+pub mod OpenLemmas
 pub mod SessionSend
+pub mod SubmitLemmas
+pub mod ReportLemmas
+pub mod NeededLemmas

@@ -4,9 +4,15 @@ pub mod Place
 pub mod View
 pub mod Ask
 pub mod Compact
+pub mod Submit
 pub mod Info
 pub mod Lists
 pub mod Member
 pub mod Objects
 pub mod Exports
 pub mod Locate
+pub mod Needed
+pub mod Log
+pub mod OpenLines
+pub mod Copy
+pub mod Report

@@ -6,9 +6,9 @@ ghost use Rattle.pgp_c.specs.Member.{AreOfMember, member};
 
 use super::ask::group_of;
 use super::status::Status;
+use super::submit::submit;
 use pgp_core::Session;
 use pgp_ids::{Entry, Epoch, Info, Member, OsdId, Version};
-use pgp_text::{LineRefusal, Reply};
 
 /// The greatest slot of a member.
 const LAST_SLOT: u32 = 15;
@@ -49,11 +49,7 @@ pub fn submit_info(session: &mut Session, info: &PgpInfo) -> u32
     let Some(info) = info_of(info) else {
         return Status::BadArgument.number();
     };
-    match session.submit(Entry::Info(info)) {
-        Ok(Reply::Refused(LineRefusal::Entry(refusal))) => u32::from(refusal.number()),
-        Ok(_) => Status::Done.number(),
-        Err(_) => Status::NoMemory.number(),
-    }
+    submit(session, Entry::Info(info))
 }
 
 /// The info with these numbers, if each is in its range.
@@ -94,7 +90,8 @@ pub fn member_of(osd: u32, slot: u32) -> Option<Member>
     })
 }
 
-fn version_of(epoch: u32, v: u32) -> Version
+/// The version with this epoch and this number.
+pub fn version_of(epoch: u32, v: u32) -> Version
     ensures { (result.epoch ≡ epoch) × (result.v ≡ v) }
 {
     Version {

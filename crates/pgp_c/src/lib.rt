@@ -11,44 +11,63 @@ ghost use Rattle.std.specs.Prelude.{◌≡◌, Some, map};
 ghost use Rattle.pgp_lines.specs.declared.command.format.Format.TheVariants.{Two};
 ghost use Rattle.pgp_c.specs.Ask.{Asks};
 ghost use Rattle.pgp_c.specs.Compact.{Compacts};
+ghost use Rattle.pgp_c.specs.Copy.{OpensCopy};
 ghost use Rattle.pgp_c.specs.Exports.{Opens, Closes, Tells, Repeats, session_format};
 ghost use Rattle.pgp_c.specs.Info.{Submits};
 ghost use Rattle.pgp_c.specs.Lists.{Lists, pgp_device, interval_of, member_of, peer_of};
 ghost use Rattle.pgp_c.specs.Locate.{Locates};
+ghost use Rattle.pgp_c.specs.Log.{AsksLog};
+ghost use Rattle.pgp_c.specs.Needed.{Needs};
 ghost use Rattle.pgp_c.specs.Objects.{Objects};
+ghost use Rattle.pgp_c.specs.OpenLines.{OpensLines};
+ghost use Rattle.pgp_c.specs.Report.{SubmitsEntries};
+ghost use Rattle.pgp_c.specs.Submit.{SubmitsClose};
 
 mod ask;
 mod compact;
+mod copy;
 mod each;
 mod held_session;
 mod info;
 mod lists;
 mod locate;
+mod log;
+mod needed;
 mod objects;
 mod open;
+mod open_lines;
 mod place;
+mod report;
 mod room;
 mod session;
 mod status;
+mod submit;
 mod view;
 
 use compact::compact_log;
+use copy::open_copy;
 use each::put_each;
 use info::{PgpInfo, member_of, submit_info};
 use lists::{PgpInterval, PgpMember, PgpPeer};
 use locate::locate;
+use log::{PgpLog, log_of};
+use needed::put_needed;
 use objects::{PgpObject, put_objects};
 use open::{open, session_format};
+use open_lines::open_lines;
+use pgp_ids::Entry;
 use pgp_lines::Format;
 use place::PgpPlace;
+use report::{PgpLogEntry, PgpReport, submit_entries};
 use room::put_out;
 use session::PgpSession;
 use status::Status;
 use std::alloc::Global;
+use submit::submit;
 use view::{PgpView, view_of};
 
-/// Version 0.1.0.
-const VERSION: u32 = 100;
+/// Version 0.1.1.
+const VERSION: u32 = 101;
 
 /// Opens a session with an empty log, which reads lines of versions 1 and 2.
 #[unsafe(no_mangle)]
@@ -64,6 +83,34 @@ pub extern "C" fn pgp_open_format(alloc: Global, session: &mut PgpSession, forma
     ensures { Opens (session_format format) session.old.held.session session.new.held.session result }
 {
     open(alloc, session, session_format(format))
+}
+
+/// Opens a session with the log that the lines of a text make, up to the version of this number, and puts into `refused` how many of
+/// them are refused.
+#[unsafe(no_mangle)]
+pub extern "C" fn pgp_open_lines(
+    alloc: Global,
+    session: &mut PgpSession,
+    format: u32,
+    text: &[u8],
+    refused: &mut usize,
+) -> u32
+    ensures { OpensLines (session_format format) text.now session.old.held.session session.new.held.session refused.new result }
+{
+    *refused = 0;
+    open_lines(alloc, session, session_format(format), text, refused)
+}
+
+/// Opens `copy` with the log of `session`. They share the entries, which nobody changes.
+#[unsafe(no_mangle)]
+pub extern "C" fn pgp_open_copy(
+    alloc: Global,
+    copy: &mut PgpSession,
+    session: &mut PgpSession,
+) -> u32
+    ensures { OpensCopy copy.old.held.session copy.new.held.session session.old.held.session session.new.held.session result }
+{
+    open_copy(alloc, copy, session)
 }
 
 /// Ends a session, and frees its memory.
@@ -176,6 +223,38 @@ pub extern "C" fn pgp_submit_info(alloc: Global, session: &mut PgpSession, info:
     status
 }
 
+/// Adds to the session's log a part of a member's log. If the log refuses it, the status is the number of the refusal.
+#[unsafe(no_mangle)]
+pub extern "C" fn pgp_submit_entries(
+    alloc: Global,
+    session: &mut PgpSession,
+    report: &PgpReport,
+    log: &[PgpLogEntry],
+) -> u32
+    ensures { SubmitsEntries session.old.held.session session.new.held.session report.now log.now result }
+{
+    let Some(mut opened) = session.take(alloc) else {
+        return Status::NotOpen.number();
+    };
+    let status = submit_entries(alloc, &mut opened, report, log);
+    session.put(opened);
+    status
+}
+
+/// Adds to the session's log its last entry, after which it takes no further one. If the log refuses it, the status is the number of
+/// the refusal.
+#[unsafe(no_mangle)]
+pub extern "C" fn pgp_submit_close(alloc: Global, session: &mut PgpSession) -> u32
+    ensures { SubmitsClose session.old.held.session session.new.held.session result }
+{
+    let Some(mut opened) = session.take(alloc) else {
+        return Status::NotOpen.number();
+    };
+    let status = submit(&mut opened, Entry::Close);
+    session.put(opened);
+    status
+}
+
 /// Removes from the session's log reports that no answer needs, and puts their number into `left_out`.
 #[unsafe(no_mangle)]
 pub extern "C" fn pgp_compact_log(
@@ -198,6 +277,39 @@ pub extern "C" fn pgp_compact_log(
         }
         Err(_) => Status::NoMemory.number(),
     }
+}
+
+/// Puts for each entry of the session's log whether it stays where that is compacted into `room` if they fit, and the number of the
+/// entries into `count`.
+#[unsafe(no_mangle)]
+pub extern "C" fn pgp_needed(
+    alloc: Global,
+    session: &mut PgpSession,
+    room: &mut [u8],
+    count: &mut usize,
+) -> u32
+    ensures { Needs session.old.held.session session.new.held.session room.old room.new count.new result }
+{
+    *count = 0;
+    let Some(opened) = session.take(alloc) else {
+        return Status::NotOpen.number();
+    };
+    let status = put_needed(alloc, &opened, room, count);
+    session.put(opened);
+    status
+}
+
+/// Puts into `log` what a session knows of its log.
+#[unsafe(no_mangle)]
+pub extern "C" fn pgp_ask_log(alloc: Global, session: &mut PgpSession, log: &mut PgpLog) -> u32
+    ensures { AsksLog session.old.held.session session.new.held.session log.old log.new result }
+{
+    let Some(opened) = session.take(alloc) else {
+        return Status::NotOpen.number();
+    };
+    *log = log_of(&opened);
+    session.put(opened);
+    Status::Done.number()
 }
 
 /// Puts the members that have to be heard into `room` if they fit, and their number into `count`.

@@ -2,8 +2,9 @@
 
 ghost use Rattle.std.specs.Prelude.{◌≡◌, [], map, is_some, true, OnOk, IfOk, OnErr};
 ghost use Rattle.std.specs.Arc.{arc_value};
-ghost use Rattle.pgp_log.specs.Log.{is_legal};
+ghost use Rattle.pgp_log.specs.Log.{epoch_of, is_legal};
 ghost use Rattle.pgp_lines.specs.declared.command.Command.TheVariants.{Locate, Submit};
+ghost use Rattle.pgp_core.specs.Added.{IsOutcome, added_by, with_added};
 ghost use Rattle.pgp_core.specs.Script.{MayMeet, answer, log_past};
 ghost use Rattle.pgp_core.specs.Session.{LogAndAnswer, last_text, log_then, met_by, reply_in, view_in};
 ghost use Rattle.pgp_core.specs.Wants.{MayFindNone};
@@ -12,8 +13,9 @@ use super::answer::{NoReply, answer_line};
 use super::codec::Codec;
 use super::line::{LONGEST_LINE, all_blank, long_line, want_line};
 use super::log::Log;
+use super::outcome::LineOutcome;
 use super::want::Want;
-use pgp_ids::{Entry, ObjectName, PgId, PoolId, View};
+use pgp_ids::{Entry, Epoch, ObjectName, PgId, PoolId, View};
 use pgp_lines::Format;
 use pgp_text::Reply;
 use std::alloc::{AllocError, Global};
@@ -102,6 +104,32 @@ impl Session {
             }
             Err(NoReply::Gone) => unreachable!(),
         }
+    }
+
+    /// Reads a line, given without its line feed, and takes its entry, if it is one that fits: what the line is to the log before it.
+    /// Nothing is answered: the last answer stays. Where it is out of memory, so does the log.
+    pub fn read(&mut self, line: &[u8]) -> Result<LineOutcome, AllocError>
+        ensures outcome { IfOk result (IsOutcome self.old.format self.old.log line.now) }
+        ensures log { OnOk result (self.new.log ≡ with_added self.old.log (added_by self.old.format self.old.log line.now)) }
+        ensures answer { self.new.answer ≡ self.old.answer }
+        ensures format { self.new.format ≡ self.old.format }
+        ensures kept { OnErr result (self.new.log ≡ self.old.log) }
+    {
+        self.log.read_line(self.alloc, &mut self.codec.reader, line)
+    }
+
+    /// Up to which version it reads lines.
+    pub fn format(&self) -> Format
+        ensures { result ≡ self.now.format }
+    {
+        self.codec.reader.format
+    }
+
+    /// The epoch of the map that the entries make, 0 before the first.
+    pub fn epoch(&self) -> Epoch
+        ensures { result ≡ epoch_of self.now.log }
+    {
+        self.log.map().epoch()
     }
 
     /// What was written for the last line, with its line feed.

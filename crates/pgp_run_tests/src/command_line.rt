@@ -38,7 +38,7 @@ static ROWS: [Row; 43] = [
     Row("", USAGE, NOTHING, Text::Any),
     Row("peer", USAGE, NOTHING, Text::Any),
     Row("run now", USAGE, NOTHING, Text::Any),
-    Row("--version", DONE, Text::Is(b"pgpeer 0.1.0\n"), NOTHING),
+    Row("--version", DONE, Text::Is(b"pgpeer 0.1.1\n"), NOTHING),
     // Help names what may be asked for, and the options of a run with their bounds.
     Row(
         "--help",

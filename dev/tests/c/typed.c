@@ -193,6 +193,77 @@ static void full(void) {
     CHECK(pgp_close(&session) == PGP_DONE);
 }
 
+// What is left after a compaction, by place, and what the session knows of its log without a group.
+static void remains(void) {
+    pgp_info info = {.pool = 1, .osd = 2, .stamp = 3, .last_update_epoch = 1, .last_update = 1, .complete = true};
+    uint8_t room[8] = {7, 7, 7, 7, 7, 7, 7, 7};
+    size_t count = 99;
+    pgp_log log;
+    CHECK(MADE(pgp_submit_info(&session, &info)) == PGP_DONE);
+    CHECK(pgp_ask_log(&session, &log) == PGP_DONE);
+    CHECK(log.count == 7 && log.incs == 3 && log.infos == 3 && log.reports == 1 && log.epoch == 3 && log.closed == 0);
+    CHECK(MADE(pgp_needed(&session, room, 6, &count)) == PGP_ROOM_TOO_SMALL && count == 7 && room[0] == 7);
+    CHECK(MADE(pgp_needed(&session, room, 8, &count)) == PGP_DONE && count == 7);
+    CHECK(memcmp(room, "\1\1\1\0\1\1\1\7", 8) == 0);
+    CHECK(MADE(pgp_compact_log(&session, &count)) == PGP_DONE && count == 1);
+    CHECK(MADE(pgp_needed(&session, room, 8, &count)) == PGP_DONE && count == 6 && memcmp(room, "\1\1\1\1\1\1\1\7", 8) == 0);
+}
+
+// A session that begins with lines, and one that begins as its copy and then goes its own way.
+static void begun(void) {
+    static const char text[] = "{\"op\":\"inc\",\"epoch\":1,\"up\":[0]}\n\n{\"op\":\"ask\",\"pg\":[1,0]}\nno line\n{\"op\":\"inc\",\"epoch\":3}\n{\"op\":\"close\"}";
+    pgp_session lines = PGP_SESSION, copy = PGP_SESSION;
+    size_t refused = 99, length = 99;
+    pgp_log log;
+    CHECK(pgp_open_copy(&copy, &lines) == PGP_NOT_OPEN && pgp_ask_log(&lines, &log) == PGP_NOT_OPEN);
+    CHECK(pgp_open_lines(&lines, 4, (const uint8_t *)text, sizeof text - 1, &refused) == PGP_BAD_ARGUMENT && refused == 0);
+    CHECK(MADE(pgp_open_lines(&lines, 2, (const uint8_t *)text, sizeof text - 1, &refused)) == PGP_DONE && refused == 3);
+    CHECK(pgp_open_lines(&lines, 2, (const uint8_t *)text, 0, &refused) == PGP_ALREADY_OPEN && refused == 0);
+    CHECK(pgp_answer(&lines, (uint8_t *)answer, sizeof answer, &length) == PGP_DONE && length == 0);
+    CHECK(pgp_ask_log(&lines, &log) == PGP_DONE && log.count == 2 && log.incs == 1 && log.infos == 0 && log.epoch == 1 && log.closed == 1);
+    CHECK(pgp_close(&lines) == PGP_DONE);
+    CHECK(MADE(pgp_open_lines(&lines, 2, (const uint8_t *)text, 0, &refused)) == PGP_DONE && refused == 0);
+    CHECK(MADE(pgp_open_copy(&copy, &session)) == PGP_DONE && pgp_open_copy(&copy, &session) == PGP_ALREADY_OPEN);
+    pgp_view view, other;
+    CHECK(MADE(pgp_ask(&session, 1, 0, &view)) == PGP_DONE && MADE(pgp_ask(&copy, 1, 0, &other)) == PGP_DONE);
+    CHECK(other.count == view.count && other.verdict == view.verdict && other.missing == view.missing && other.epoch == view.epoch);
+    CHECK(MADE(pgp_submit_close(&copy)) == PGP_DONE && MADE(pgp_submit_close(&copy)) == PGP_CLOSED);
+    CHECK(pgp_ask_log(&copy, &log) == PGP_DONE && log.closed == 1 && log.count == view.count + 1);
+    CHECK(pgp_ask_log(&session, &log) == PGP_DONE && log.closed == 0 && log.count == view.count);
+    CHECK(pgp_close(&copy) == PGP_DONE && pgp_submit_close(&copy) == PGP_NOT_OPEN && pgp_close(&lines) == PGP_DONE);
+}
+
+// A part of a member's log in values has the answer of its line.
+static void entries(void) {
+    pgp_report report = {.pool = 1, .pg = 0, .osd = 1, .slot = 0, .stamp = 3};
+    pgp_log_entry log[2] = {{.epoch = 1, .number = 1, .name_length = 40}, {.epoch = 1, .number = 2, .deletes = 1, .name_length = 1}};
+    pgp_log before, after;
+    memset(log[0].name, 'n', 255);
+    log[1].name[0] = 'z';
+    CHECK(pgp_ask_log(&session, &before) == PGP_DONE);
+    CHECK(MADE(pgp_submit_entries(&session, &report, log, 2)) == PGP_DONE);
+    CHECK(pgp_ask_log(&session, &after) == PGP_DONE && after.reports == before.reports + 1 && after.count == before.count + 1);
+    CHECK(pgp_submit_entries(&session, &report, log, 0) == PGP_BAD_ARGUMENT);
+    log[1].name_length = 0;
+    CHECK(pgp_submit_entries(&session, &report, log, 2) == PGP_BAD_ARGUMENT);
+    log[1].name_length = 1;
+    log[1].deletes = 2;
+    CHECK(pgp_submit_entries(&session, &report, log, 2) == PGP_BAD_ARGUMENT);
+    log[1].deletes = 0;
+    log[1].name[0] = 0xff;
+    CHECK(pgp_submit_entries(&session, &report, log, 2) == PGP_BAD_ARGUMENT);
+    CHECK(MADE(pgp_submit_entries(&session, &report, log, 1)) == PGP_DONE);
+    log[0].epoch = 9;
+    CHECK(MADE(pgp_submit_entries(&session, &report, log, 1)) == PGP_BAD_VERSION);
+    report.stamp = 9;
+    CHECK(MADE(pgp_submit_entries(&session, &report, log, 1)) == PGP_FUTURE_STAMP);
+    report.pg = 1;
+    CHECK(MADE(pgp_submit_entries(&session, &report, log, 1)) == PGP_UNKNOWN_GROUP);
+    report.osd = 4096;
+    CHECK(pgp_submit_entries(&session, &report, log, 1) == PGP_BAD_ARGUMENT);
+    CHECK(pgp_ask_log(&session, &after) == PGP_DONE && after.reports == before.reports + 2 && after.count == before.count + 2);
+}
+
 static void places(void) {
     tell("{\"op\":\"locate\",\"pool\":1,\"name\":\"a\"}");
     CHECK(has("\"acting\":[1,2]") && has("\"epoch\":3") && has("\"pg\":[1,0]"));
@@ -235,6 +306,11 @@ static void closed(void) {
     CHECK(MADE(pgp_ask(&session, 1, 0, &view)) == PGP_NOT_OPEN && locate(1, "a", &place) == PGP_NOT_OPEN);
     CHECK(MADE(pgp_probe(&session, 1, 0, &member, 1, &count)) == PGP_NOT_OPEN && count == 0);
     CHECK(MADE(pgp_submit_info(&session, &(pgp_info){.pool = 1})) == PGP_NOT_OPEN);
+    uint8_t needed = 7;
+    count = 99;
+    CHECK(pgp_needed(&session, &needed, 1, &count) == PGP_NOT_OPEN && count == 0 && needed == 7);
+    pgp_log_entry log = {.epoch = 1, .number = 1, .name_length = 1, .name = "a"};
+    CHECK(pgp_submit_entries(&session, &(pgp_report){.pool = 1, .osd = 1}, &log, 1) == PGP_NOT_OPEN);
 }
 
 // Version 3 is read on request alone.
@@ -269,8 +345,14 @@ static void all(void) {
     outage();
     compaction();
     long_names();
+    begun();
     CHECK(pgp_close(&session) == PGP_DONE);
-    CHECK(pgp_version() == 100);
+    CHECK(MADE(pgp_open(&session)) == PGP_DONE);
+    outage();
+    remains();
+    entries();
+    CHECK(pgp_close(&session) == PGP_DONE);
+    CHECK(pgp_version() == 101);
 }
 
 int main(int argc, char **argv) {
