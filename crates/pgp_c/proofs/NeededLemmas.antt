@@ -9,7 +9,7 @@ use Rattle.pgp_c.specs.Status.{status_number}
 
 needed-length : {X : Type 0} (test : List X → X → Bool) (xs : List X) → length (are_needed test xs) ≡ length xs
 needed-length test [] = refl
-needed-length test (x ∷ xs) = ap (λ n. 1 + n) (needed-length test xs)
+needed-length test (x ∷ xs) = let same = needed-length test xs in grind (arith, same)
 
 pub needs-put : (log : List Entry) (choices : List Bool) (old new : List ℕ) (count status : ℕ) → choices ≡ are_needed_in log
     → new ≡ put_into (map flag choices) old → count ≡ length choices → status ≡ status_number (put_status (map flag choices) old)

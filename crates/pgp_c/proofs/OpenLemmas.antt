@@ -36,7 +36,10 @@ whole-step format log line lines =
     ∙ append_assoc log (entry ∷ []) (entries_of_lines (entry_lines format (log ++ entry ∷ []) lines)))
 
 count-snoc : (done : List LineOutcome) (outcome : LineOutcome) → count_by is_refusal (done ++ outcome ∷ []) ≡ count_by is_refusal done + count_by is_refusal (outcome ∷ [])
-count-snoc [] outcome = refl
+count-snoc [] Blank = refl
+count-snoc [] Taken = refl
+count-snoc [] Asked = refl
+count-snoc [] (Refused why) = refl
 count-snoc (it ∷ done) outcome = let h = count-snoc done outcome in grind (arith, h)
 
 count-one : (outcome : LineOutcome) → count_by is_refusal (outcome ∷ []) ≡ (if is_refusal outcome then 1 else 0)

@@ -1,6 +1,6 @@
 //! Opening a session with the log that lines make.
 
-ghost use Rattle.std.specs.Prelude.{◌≡◌, IfOk, OnOk};
+ghost use Rattle.std.specs.Prelude.{◌≡◌, ◌≤◌, if◌then◌else◌, IfOk, OnOk};
 ghost use Rattle.pgp_core.specs.Added.{added_by, with_added};
 ghost use Rattle.pgp_core.specs.Lines.{lines_of};
 ghost use Rattle.pgp_c.specs.OpenLines.{BeginsWith, HasReadLines, IsRefused, OpensLines, is_refusal};
@@ -57,7 +57,7 @@ fn read_lines(session: &mut Session, text: &[u8]) -> Result<usize, AllocError>
     let mut rest = text;
     while let Some((line, others)) = first_line(rest) {
         let more = read_line(session, line)?;
-        refused += usize::from(more);
+        refused += one_if(more);
         rest = others;
     }
     Ok(refused)
@@ -79,4 +79,12 @@ fn is_refusal(outcome: &LineOutcome) -> bool
     ensures { result ≡ is_refusal outcome.now }
 {
     matches!(outcome, LineOutcome::Refused(_))
+}
+
+/// 1 where the line is refused, else 0.
+fn one_if(refused: bool) -> usize
+    ensures is { result ≡ (if refused then 1 else 0) }
+    ensures few { result ≤ 1 }
+{
+    usize::from(refused)
 }
