@@ -243,7 +243,7 @@ typedef struct pgp_peer {
 /* Each puts a list of what the session's log says of a group at the start of the room, which has places for `room_length` of
  * them, and how many they are into *count: PGP_DONE. PGP_ROOM_TOO_SMALL says by *count how many places it wants, and leaves the
  * room as it was. At any other status, which are those of pgp_ask, the room stays as it was too, and *count is 0. The session
- * stays as it was. The list is put from where the session keeps the view, which isn't copied. */
+ * stays as it was. Each call copies the view first. */
 uint32_t pgp_probe(pgp_session *session, uint32_t pool, uint32_t pg, pgp_member *room, size_t room_length, size_t *count);
 uint32_t pgp_blocked_by(pgp_session *session, uint32_t pool, uint32_t pg, uint16_t *room, size_t room_length, size_t *count);
 uint32_t pgp_intervals(pgp_session *session, uint32_t pool, uint32_t pg, pgp_interval *room, size_t room_length, size_t *count);
@@ -301,15 +301,11 @@ uint32_t pgp_needed(pgp_session *session, uint8_t *room, size_t room_length, siz
 /* What a session knows without a group. */
 typedef struct pgp_log {
     size_t count;            /* how many entries its log has */
-    size_t incs;             /* how many of them are incrementals, */
-    size_t infos;            /* infos */
-    size_t reports;          /* and parts of members' logs */
     uint32_t epoch;          /* of the last map, 0 before the first */
-    uint8_t closed;          /* 1 where the log takes no further entry, else 0 */
 } pgp_log;
 
-/* Puts what the session knows of its log into *log: PGP_DONE, or PGP_NOT_OPEN, where *log stays as it was. It takes no memory, and
- * time for each entry. The session stays as it was. */
+/* Puts what the session knows of its log into *log: PGP_DONE, or PGP_NOT_OPEN, where *log stays as it was. It takes no memory.
+ * The session stays as it was. */
 uint32_t pgp_ask_log(pgp_session *session, pgp_log *log);
 
 /* Ends the session's log, as the line of op "close" does: the statuses of pgp_submit_info, without PGP_BAD_ARGUMENT. */

@@ -1,6 +1,7 @@
 -- Lines that are read into a session one by one, and what is left of them.
-use Rattle.std.proofs.Common.{◌≡◌, ℕ, ◌+◌, List, [], ◌∷◌, ◌++◌, Bool, true, false, Option, Some, None, refl, sym, ap, ◌∙◌, append_assoc, append-nil, subst, arith, if◌then◌else◌}
+use Rattle.std.proofs.Common.{◌≡◌, ℕ, ◌+◌, List, [], ◌∷◌, ◌++◌, Bool, true, false, Option, Some, None, refl, sym, ap, ◌∙◌, append_assoc, append-nil, subst, cond, if◌then◌else◌}
 use Rattle.std.specs.List.{count_by}
+use Rattle.std.proofs.lemmas.List.Sums.{sum_by-append}
 use Rattle.pgp_ids.specs.declared.entry.Entry.{Entry}
 use Rattle.pgp_lines.specs.declared.command.format.Format.{Format}
 use Rattle.pgp_core.specs.Added.{EntryLine, IsOutcome, added_by, entries_of_lines, entry_line, entry_lines, with_added}
@@ -36,11 +37,7 @@ whole-step format log line lines =
     ∙ append_assoc log (entry ∷ []) (entries_of_lines (entry_lines format (log ++ entry ∷ []) lines)))
 
 count-snoc : (done : List LineOutcome) (outcome : LineOutcome) → count_by is_refusal (done ++ outcome ∷ []) ≡ count_by is_refusal done + count_by is_refusal (outcome ∷ [])
-count-snoc [] Blank = refl
-count-snoc [] Taken = refl
-count-snoc [] Asked = refl
-count-snoc [] (Refused why) = refl
-count-snoc (it ∷ done) outcome = let h = count-snoc done outcome in grind (arith, h)
+count-snoc done outcome = sum_by-append (λ it. cond (is_refusal it) 1 0) done (outcome ∷ [])
 
 count-one : (outcome : LineOutcome) → count_by is_refusal (outcome ∷ []) ≡ (if is_refusal outcome then 1 else 0)
 count-one Blank = refl

@@ -201,7 +201,7 @@ static void remains(void) {
     pgp_log log;
     CHECK(MADE(pgp_submit_info(&session, &info)) == PGP_DONE);
     CHECK(pgp_ask_log(&session, &log) == PGP_DONE);
-    CHECK(log.count == 7 && log.incs == 3 && log.infos == 3 && log.reports == 1 && log.epoch == 3 && log.closed == 0);
+    CHECK(log.count == 7 && log.epoch == 3);
     CHECK(MADE(pgp_needed(&session, room, 6, &count)) == PGP_ROOM_TOO_SMALL && count == 7 && room[0] == 7);
     CHECK(MADE(pgp_needed(&session, room, 8, &count)) == PGP_DONE && count == 7);
     CHECK(memcmp(room, "\1\1\1\0\1\1\1\7", 8) == 0);
@@ -220,7 +220,7 @@ static void begun(void) {
     CHECK(MADE(pgp_open_lines(&lines, 2, (const uint8_t *)text, sizeof text - 1, &refused)) == PGP_DONE && refused == 3);
     CHECK(pgp_open_lines(&lines, 2, (const uint8_t *)text, 0, &refused) == PGP_ALREADY_OPEN && refused == 0);
     CHECK(pgp_answer(&lines, (uint8_t *)answer, sizeof answer, &length) == PGP_DONE && length == 0);
-    CHECK(pgp_ask_log(&lines, &log) == PGP_DONE && log.count == 2 && log.incs == 1 && log.infos == 0 && log.epoch == 1 && log.closed == 1);
+    CHECK(pgp_ask_log(&lines, &log) == PGP_DONE && log.count == 2 && log.epoch == 1);
     CHECK(pgp_close(&lines) == PGP_DONE);
     CHECK(MADE(pgp_open_lines(&lines, 2, (const uint8_t *)text, 0, &refused)) == PGP_DONE && refused == 0);
     CHECK(MADE(pgp_open_copy(&copy, &session)) == PGP_DONE && pgp_open_copy(&copy, &session) == PGP_ALREADY_OPEN);
@@ -228,8 +228,8 @@ static void begun(void) {
     CHECK(MADE(pgp_ask(&session, 1, 0, &view)) == PGP_DONE && MADE(pgp_ask(&copy, 1, 0, &other)) == PGP_DONE);
     CHECK(other.count == view.count && other.verdict == view.verdict && other.missing == view.missing && other.epoch == view.epoch);
     CHECK(MADE(pgp_submit_close(&copy)) == PGP_DONE && MADE(pgp_submit_close(&copy)) == PGP_CLOSED);
-    CHECK(pgp_ask_log(&copy, &log) == PGP_DONE && log.closed == 1 && log.count == view.count + 1);
-    CHECK(pgp_ask_log(&session, &log) == PGP_DONE && log.closed == 0 && log.count == view.count);
+    CHECK(pgp_ask_log(&copy, &log) == PGP_DONE && log.count == view.count + 1);
+    CHECK(pgp_ask_log(&session, &log) == PGP_DONE && log.count == view.count);
     CHECK(pgp_close(&copy) == PGP_DONE && pgp_submit_close(&copy) == PGP_NOT_OPEN && pgp_close(&lines) == PGP_DONE);
 }
 
@@ -242,7 +242,7 @@ static void entries(void) {
     log[1].name[0] = 'z';
     CHECK(pgp_ask_log(&session, &before) == PGP_DONE);
     CHECK(MADE(pgp_submit_entries(&session, &report, log, 2)) == PGP_DONE);
-    CHECK(pgp_ask_log(&session, &after) == PGP_DONE && after.reports == before.reports + 1 && after.count == before.count + 1);
+    CHECK(pgp_ask_log(&session, &after) == PGP_DONE && after.count == before.count + 1);
     CHECK(pgp_submit_entries(&session, &report, log, 0) == PGP_BAD_ARGUMENT);
     log[1].name_length = 0;
     CHECK(pgp_submit_entries(&session, &report, log, 2) == PGP_BAD_ARGUMENT);
@@ -261,7 +261,7 @@ static void entries(void) {
     CHECK(MADE(pgp_submit_entries(&session, &report, log, 1)) == PGP_UNKNOWN_GROUP);
     report.osd = 4096;
     CHECK(pgp_submit_entries(&session, &report, log, 1) == PGP_BAD_ARGUMENT);
-    CHECK(pgp_ask_log(&session, &after) == PGP_DONE && after.reports == before.reports + 2 && after.count == before.count + 2);
+    CHECK(pgp_ask_log(&session, &after) == PGP_DONE && after.count == before.count + 2);
 }
 
 static void places(void) {

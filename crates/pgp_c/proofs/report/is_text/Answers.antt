@@ -9,6 +9,6 @@ returns-in-Ok c = sym (is_utf8-from_IsUtf8 c.args.bytes.now c.in-Ok.ensures.case
 
 pub returns-in-Err : goal.returns-in-Err
 returns-in-Err c = elim (cases_Bool (is_utf8 c.args.bytes.now)) [
-  | inl yes ↦ absurd (c.in-Err.ensures.cases.0 (IsUtf8-from_is_utf8 c.args.bytes.now yes))
-  | inr no ↦ sym no
+  | inl is ↦ absurd (c.in-Err.ensures.cases.0 (IsUtf8-from_is_utf8 c.args.bytes.now is))
+  | inr isnt ↦ sym isnt
 ]
