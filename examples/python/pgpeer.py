@@ -1,6 +1,9 @@
 """A session of the peering core, by ctypes over the shared object that tools/build_c_library.sh makes.
 
-    PGPEER_SO=/tmp/pgpeer/libpgpeer.so python3 examples/python/pgpeer.py < examples/outage.jsonl
+    PGPEER_SO=/tmp/pgpeer/libpgpeer.so python3 examples/python/pgpeer.py [FILE] < examples/outage.jsonl
+
+Tells it each line, and prints the answers. Where FILE is named, the lines that the log took are kept in it: started again, it goes on
+from that.
 """
 
 from __future__ import annotations
@@ -64,14 +67,27 @@ class Object(ctypes.Structure):
         return bytes(self._name[: self.name_length]).decode()
 
 
-class Session:
-    """One log, told lines up to a version of the format. A session is used by one thread at a time."""
+class Log(ctypes.Structure):
+    """pgp_log of pgpeer.h: what a session knows without a group."""
 
-    def __init__(self, library: str, format: int = 2) -> None:
+    _fields_ = [
+        *((name, ctypes.c_size_t) for name in ("count", "incs", "infos", "reports")),
+        ("epoch", ctypes.c_uint32),
+        ("closed", ctypes.c_uint8),
+    ]
+
+
+class Session:
+    """The log that these lines make, up to a version of the format. A session is used by one thread at a time."""
+
+    def __init__(self, library: str, format: int = 2, lines: bytes = b"") -> None:
         self._calls = ctypes.CDLL(library)
         self._kept = _Kept()
         self._room = ctypes.create_string_buffer(4096)
-        self._made(self._calls.pgp_open_format(ctypes.byref(self._kept), format))
+        refused = ctypes.c_size_t()
+        given = (lines, ctypes.c_size_t(len(lines)), ctypes.byref(refused))
+        self._made(self._calls.pgp_open_lines(ctypes.byref(self._kept), format, *given))
+        self.refused = refused.value
 
     @staticmethod
     def _made(status: int) -> None:
@@ -91,6 +107,12 @@ class Session:
             status = self._calls.pgp_answer(kept, self._room, wanted, ctypes.byref(wanted))
         self._made(status)
         return self._room.raw[: wanted.value]
+
+    def log(self) -> Log:
+        """What the session knows of its log."""
+        log = Log()
+        self._made(self._calls.pgp_ask_log(ctypes.byref(self._kept), ctypes.byref(log)))
+        return log
 
     def locate(self, pool: int, name: str) -> Place:
         """Where an object lies. A pool that there isn't, or no name of an object, is a ValueError."""
@@ -132,10 +154,30 @@ class Session:
         self._calls.pgp_close(ctypes.byref(self._kept))
 
 
+def whole_lines(path: str) -> bytes:
+    """The whole lines of a file. One that was cut off as it was written was never answered, and is taken away."""
+    with open(path, "r+b") as file:
+        text = file.read()
+        whole = text.rfind(b"\n") + 1
+        file.truncate(whole)
+    return text[:whole]
+
+
 def main() -> None:
-    session = Session(os.environ.get("PGPEER_SO", "libpgpeer.so"))
+    path = sys.argv[1] if len(sys.argv) > 1 else None
+    log = open(path, "ab") if path else None
+    session = Session(os.environ.get("PGPEER_SO", "libpgpeer.so"), lines=whole_lines(path) if path else b"")
+    if session.refused:
+        sys.exit(f"{path}: it has other lines than those of a log")
     for line in sys.stdin.buffer:
-        sys.stdout.buffer.write(session.tell(line.rstrip(b"\n")))
+        before, line = session.log().count, line.rstrip(b"\n")
+        answer = session.tell(line)
+        if log and session.log().count > before:
+            log.write(line + b"\n")
+            log.flush()
+            os.fsync(log.fileno())
+        sys.stdout.buffer.write(answer)
+        sys.stdout.buffer.flush()
     session.close()
 
 

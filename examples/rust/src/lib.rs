@@ -5,12 +5,15 @@
 //! cd examples/rust && PGPEER_DIR=/tmp/pgpeer cargo test --offline
 //! ```
 
-mod raw;
+use pgpeer_sys as raw;
 
-pub use raw::{Member, Object, Peer, Place, View};
+pub use raw::{Log, Member, Object, Peer, Place, View};
 
 /// Stands for no device.
 pub const NO_DEVICE: u16 = 65535;
+
+/// Lines of versions 1 and 2 are read.
+const FORMAT: u32 = 2;
 
 const DONE: u32 = 0;
 const ROOM_TOO_SMALL: u32 = 1;
@@ -24,6 +27,17 @@ pub enum Fault {
     /// The number of this status, or of the refusal: those of pgpeer.h.
     Status(u32),
 }
+
+impl std::fmt::Display for Fault {
+    fn fmt(&self, out: &mut std::fmt::Formatter) -> std::fmt::Result {
+        match self {
+            Fault::NoMemory => write!(out, "no memory"),
+            Fault::Status(number) => write!(out, "status {number}"),
+        }
+    }
+}
+
+impl std::error::Error for Fault {}
 
 fn done(status: u32) -> Result<(), Fault> {
     match status {
@@ -42,10 +56,15 @@ pub struct Session {
 impl Session {
     /// An empty log.
     pub fn open() -> Result<Self, Fault> {
-        let mut kept = raw::Session::zeros();
-        // SAFETY: the session is filled with zeros.
-        done(unsafe { raw::pgp_open(&mut kept) })?;
-        Ok(Session { kept, room: vec![0; 4096] })
+        Ok(Self::of_lines(b"")?.0)
+    }
+
+    /// The log that these lines make, and how many of them were refused.
+    pub fn of_lines(lines: &[u8]) -> Result<(Self, usize), Fault> {
+        let (mut kept, mut refused) = (raw::Session::zeros(), 0);
+        // SAFETY: the session is filled with zeros, and the lines are as long as is said.
+        done(unsafe { raw::pgp_open_lines(&mut kept, FORMAT, lines.as_ptr(), lines.len(), &mut refused) })?;
+        Ok((Session { kept, room: vec![0; 4096] }, refused))
     }
 
     /// The answer to a line, which is given without its line feed.
@@ -60,6 +79,14 @@ impl Session {
         }
         done(status)?;
         Ok(&self.room[..wanted])
+    }
+
+    /// What the session knows of its log.
+    pub fn log(&mut self) -> Result<Log, Fault> {
+        let mut log = Log::default();
+        // SAFETY: the session is this one's alone.
+        done(unsafe { raw::pgp_ask_log(&mut self.kept, &mut log) })?;
+        Ok(log)
     }
 
     /// Where the object of this name lies.

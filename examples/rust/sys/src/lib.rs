@@ -1,4 +1,4 @@
-//! What pgpeer.h declares, as far as this crate uses it.
+//! What pgpeer.h declares, as far as the crate pgpeer uses it.
 
 use std::mem::MaybeUninit;
 
@@ -56,6 +56,18 @@ pub struct View {
     pub acting: [u16; 16],
 }
 
+/// `pgp_log`: what a session knows without a group.
+#[repr(C)]
+#[derive(Clone, Copy, Debug, Default)]
+pub struct Log {
+    pub count: usize,
+    pub incs: usize,
+    pub infos: usize,
+    pub reports: usize,
+    pub epoch: u32,
+    pub closed: u8,
+}
+
 /// `pgp_member`: a device in a slot.
 #[repr(C)]
 #[derive(Clone, Copy, Debug, Default, PartialEq, Eq)]
@@ -98,7 +110,7 @@ impl Object {
 }
 
 extern "C" {
-    pub fn pgp_open(session: *mut Session) -> u32;
+    pub fn pgp_open_lines(session: *mut Session, format: u32, text: *const u8, length: usize, refused: *mut usize) -> u32;
     pub fn pgp_close(session: *mut Session) -> u32;
     pub fn pgp_line(session: *mut Session, line: *const u8, length: usize, room: *mut u8, room_length: usize, wanted: *mut usize) -> u32;
     pub fn pgp_answer(session: *mut Session, room: *mut u8, room_length: usize, wanted: *mut usize) -> u32;
@@ -107,5 +119,6 @@ extern "C" {
     pub fn pgp_probe(session: *mut Session, pool: u32, pg: u32, room: *mut Member, length: usize, count: *mut usize) -> u32;
     pub fn pgp_missing(session: *mut Session, pool: u32, pg: u32, room: *mut Peer, length: usize, count: *mut usize) -> u32;
     pub fn pgp_missing_objects(session: *mut Session, pool: u32, pg: u32, osd: u32, slot: u32, room: *mut Object, length: usize, count: *mut usize) -> u32;
+    pub fn pgp_ask_log(session: *mut Session, log: *mut Log) -> u32;
     pub fn pgp_compact_log(session: *mut Session, left_out: *mut usize) -> u32;
 }

@@ -1,0 +1,3 @@
+module pgpeer
+
+go 1.18
