@@ -1,7 +1,7 @@
 #!/usr/bin/env python3
 """Checks the static library for C against the stored scripts, the examples and the sources.
 
-    dev/check_c_library.py [FOLDER]
+    dev/check_c_library.py [--memory] [FOLDER]
 
 FOLDER is what tools/build_c_library.sh made: crates/pgp_c/out/c where none is given, which is made first. Needs a C compiler, cc or
 $CC. What is checked, each with a line:
@@ -19,14 +19,23 @@ $CC. What is checked, each with a line:
              lines that are long or have a NUL, and examples/c/ask.c what it is to print of an outage
   pkg-config examples/c/outage.c is built with the words that pkg-config gives of pgpeer.pc, and prints the stored answers
   CMake      the same by find_package, over the archive and over the shared object, from a folder where all is installed
-  Rust       the tests of examples/rust pass, by cargo
-  memory     valgrind finds no fault, no leak and no race in a short script
-  C++        pgpeer.h is read by c++
+  tests in Rust  the tests of examples/rust pass, by cargo
+  restart in L   a program of examples/ in the language L is told the outage, and killed after each of its answers in turn: when it is
+             started again, it has kept what its log took, and goes on as if nothing had been
 
-One of the last five is skipped where its program isn't there, and its line says so. The last line is `N checks, M wrong`, and the status is 1 where something was wrong.
+With --memory it looks for faults of memory in place of that:
+
+  valgrind   finds no fault, no leak and no race in a short script and in the calls of values
+  sanitizer  that of addresses and the one of undefined behaviour find none
+  L by valgrind, L by sanitizer  the same of the programs that are started again
+
+What lacks its compiler or its tool is skipped, and its line says so. The last line is `N checks, M wrong`, and the status is 1 where
+something was wrong.
 """
 
+import argparse
 import ctypes
+import functools
 import os
 import pathlib
 import re
@@ -36,6 +45,7 @@ import subprocess
 import sys
 import tempfile
 
+import keeping
 from built import ROOT
 from run_examples import examples
 
@@ -49,6 +59,7 @@ osd.2 has to be heard
 osd.2 lacks b, written as 1'2
 osd.1 serves 1000 of 1000 objects
 """  # what examples/c/ask.c prints of examples/outage.jsonl
+TOLD = [ROOT / "examples/outage.jsonl", ROOT / "examples/outage.answers.jsonl"]
 LONGEST_LINE = 1_048_576
 CLOSE = b'{"op":"close"}'
 ODD_LINES = {  # of the longest line, of longer ones, of one with a NUL, and of a last one without a line feed, with their answers
@@ -70,6 +81,13 @@ def compiled(folder, program, *words):
     if built.returncode:
         sys.exit(f"check_c_library.py: {built.stderr.decode()}")
     return program
+
+
+def tests_in_c(folder, work, words):
+    """Builds the two tests in C, with these words for the compiler."""
+    tests = ROOT / "dev/tests/c"
+    play = compiled(folder, work / "play", *words, WRAPPED, tests / "play.c", "-pthread")
+    return play, compiled(folder, work / "typed", *words, WRAPPED, tests / "typed.c")
 
 
 # Names and numbers
@@ -124,6 +142,7 @@ def wrong_versions(folder):
         (ROOT / "share/man/pgpeer.3", r'^\.TH .*"pgpeer (\S+)"'),
         (ROOT / "crates/pgp_cli/src/commands.rt", r'\.version\("(\S+)"\)'),
         (ROOT / "examples/rust/Cargo.toml", r'^version = "(\S+)"$'),
+        (ROOT / "examples/rust/sys/Cargo.toml", r'^version = "(\S+)"$'),
     ):
         told = re.findall(pattern, file.read_text(), re.M)
         if told != [version]:
@@ -237,21 +256,23 @@ def wrong_installed(folder, work):
 
 def wrong_crate(folder, work):
     """What is wrong with examples/rust, in a copy: cargo writes beside its files."""
-    examples = pathlib.Path(work) / "examples"
-    shutil.copytree(ROOT / "examples", examples, ignore=shutil.ignore_patterns("target", "Cargo.lock"))
-    env = {**os.environ, "PGPEER_DIR": str(folder), "CARGO_TARGET_DIR": f"{work}/rust"}
-    return faults(run("cargo", "test", "-q", "--offline", cwd=examples / "rust", env=env))
+    env = {**os.environ, "PGPEER_DIR": str(folder), "CARGO_TARGET_DIR": str(work / "target")}
+    return faults(run("cargo", "test", "-q", "--offline", cwd=keeping.copied("rust", work), env=env))
 
 
-def wrong_header(folder):
-    return faults(run("c++", "-std=c++17", "-Wall", "-Wextra", "-Werror", "-fsyntax-only", "-x", "c++", folder / "pgpeer.h"))
+# Memory
 
 
-def wrong_memory(play, typed):
-    outage = [ROOT / "examples/outage.jsonl", ROOT / "examples/outage.answers.jsonl"]
-    leaks = ["valgrind", "-q", "--leak-check=full", "--error-exitcode=3"]
-    races = ["valgrind", "-q", "--tool=helgrind", "--error-exitcode=3"]
-    for words in ([*leaks, play, *outage], [*leaks, typed], [*races, play, *outage, "threads"], [*races, play, *outage, "moves"]):
+def by_valgrind(play, typed):
+    leaks = [*keeping.VALGRIND, *keeping.LEAKS]
+    races = [*keeping.VALGRIND, "--tool=helgrind"]
+    for words in ([*leaks, play, *TOLD], [*leaks, typed], [*races, play, *TOLD, "threads"], [*races, play, *TOLD, "moves"]):
+        yield from faults(run(*words))
+
+
+def by_sanitizer(folder, work):
+    play, typed = tests_in_c(folder, work, keeping.SANITIZED)
+    for words in ([play, *TOLD], [play, *TOLD, "threads"], [play, *TOLD, "refuse"], [typed]):
         yield from faults(run(*words))
 
 
@@ -259,43 +280,68 @@ def faults(ended):
     return [ended.stderr.decode()[-600:]] if ended.returncode else []
 
 
+def kept(check, keeper, folder, work):
+    """What a check of a program that keeps its log finds, in a folder of its own."""
+    place = pathlib.Path(tempfile.mkdtemp(dir=work))
+    try:
+        return list(check(keeper, folder, place))
+    except (subprocess.CalledProcessError, subprocess.TimeoutExpired) as why:
+        return [str(why)]
+
+
+# Each check has its name, the program without which it is skipped, and what finds faults.
+
+
+def checks_of_calls(folder, work):
+    play, typed = tests_in_c(folder, work, [])
+    outage = compiled(folder, work / "outage", ROOT / "examples/c/outage.c")
+    ask = compiled(folder, work / "ask", ROOT / "examples/c/ask.c")
+    return [
+        ("names", "cc", lambda: wrong_names((folder / "pgpeer.h").read_text())),
+        ("version", "cc", lambda: wrong_versions(folder)),
+        ("symbols", "cc", lambda: wrong_symbols(folder)),
+        ("stored", "cc", lambda: wrong_runs(play)),
+        ("refused", "cc", lambda: wrong_refusals(play)),
+        ("typed", "cc", lambda: faults(run(typed)) + faults(run(typed, "refuse"))),
+        ("example", "cc", lambda: [*wrong_examples(folder, outage, ask), *wrong_values(folder)]),
+        ("pkg-config", "pkg-config", lambda: wrong_package(folder, work / "packaged")),
+        ("CMake", "cmake", lambda: wrong_installed(folder, work)),
+        ("tests in Rust", "cargo", lambda: wrong_crate(folder, work)),
+    ] + [
+        (f"restart in {it.language}", it.compiler, functools.partial(kept, keeping.restarts, it, folder, work)) for it in keeping.KEEPERS
+    ]
+
+
+def checks_of_memory(folder, work):
+    play, typed = tests_in_c(folder, work, [])
+    checks = [("valgrind", "valgrind", lambda: by_valgrind(play, typed)), ("sanitizer", "cc", lambda: by_sanitizer(folder, work))]
+    for it in keeping.KEEPERS:
+        if it.valgrind is not None:
+            program = it.compiler if shutil.which("valgrind") else "valgrind"
+            checks.append((f"{it.language} by valgrind", program, functools.partial(kept, keeping.in_valgrind, it, folder, work)))
+        if it.sanitized is not None:
+            checks.append((f"{it.language} by sanitizer", it.compiler, functools.partial(kept, keeping.sanitized, it, folder, work)))
+    return checks
+
+
 def main():
-    if len(sys.argv) > 2:
-        sys.exit("check_c_library.py: usage: dev/check_c_library.py [FOLDER]")
-    folder = pathlib.Path(sys.argv[1] if len(sys.argv) == 2 else ROOT / "crates/pgp_c/out/c").resolve()
-    if len(sys.argv) < 2:
+    parser = argparse.ArgumentParser(description=__doc__, formatter_class=argparse.RawDescriptionHelpFormatter)
+    parser.add_argument("--memory", action="store_true", help="look for faults of memory alone")
+    parser.add_argument("folder", nargs="?", type=pathlib.Path, metavar="FOLDER")
+    options = parser.parse_args()
+    folder = (options.folder or ROOT / "crates/pgp_c/out/c").resolve()
+    if not options.folder:
         subprocess.run([str(ROOT / "tools/build_c_library.sh"), str(folder)], check=True, stdout=subprocess.DEVNULL)
-    tests, skipped = ROOT / "dev/tests/c", {}
+    done = failed = 0
     with tempfile.TemporaryDirectory() as work:
-        play = compiled(folder, pathlib.Path(work) / "play", WRAPPED, tests / "play.c", "-pthread")
-        typed = compiled(folder, pathlib.Path(work) / "typed", WRAPPED, tests / "typed.c")
-        outage = compiled(folder, pathlib.Path(work) / "outage", ROOT / "examples/c/outage.c")
-        ask = compiled(folder, pathlib.Path(work) / "ask", ROOT / "examples/c/ask.c")
-        checks = {
-            "names": list(wrong_names((folder / "pgpeer.h").read_text())),
-            "version": list(wrong_versions(folder)),
-            "symbols": list(wrong_symbols(folder)),
-            "stored": list(wrong_runs(play)),
-            "refused": list(wrong_refusals(play)),
-            "typed": faults(run(typed)) + faults(run(typed, "refuse")),
-            "example": list(wrong_examples(folder, outage, ask)) + wrong_values(folder),
-        }
-        for name, program, look in (
-            ("pkg-config", "pkg-config", lambda: wrong_package(folder, pathlib.Path(work) / "packaged")),
-            ("CMake", "cmake", lambda: wrong_installed(folder, pathlib.Path(work))),
-            ("Rust", "cargo", lambda: wrong_crate(folder, work)),
-            ("memory", "valgrind", lambda: wrong_memory(play, typed)),
-            ("C++", "c++", lambda: wrong_header(folder)),
-        ):
+        for name, program, look in (checks_of_memory if options.memory else checks_of_calls)(folder, pathlib.Path(work)):
             if not shutil.which(program):
-                skipped[name] = program
-            checks[name] = list(look()) if name not in skipped else []
-    for name, wrong in checks.items():
-        print(f"{name} skipped, since {skipped[name]} isn't there" if name in skipped else f"{name} {'wrong' if wrong else 'right'}")
-        for line in wrong:
-            print("   ", line)
-    failed = sum(1 for wrong in checks.values() if wrong)
-    print(f"{len(checks) - len(skipped)} checks, {failed} wrong")
+                print(f"{name} skipped, since {program} isn't there")
+                continue
+            wrong = list(look())
+            done, failed = done + 1, failed + bool(wrong)
+            print(f"{name} {'wrong' if wrong else 'right'}", *wrong, sep="\n    ", flush=True)
+    print(f"{done} checks, {failed} wrong")
     return int(failed > 0)
 
 

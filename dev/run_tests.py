@@ -29,7 +29,10 @@ In this order, each part with its count and its seconds:
                                     of a compaction (refuse_allocations.py), of tests of the feed, the engine and runs
                                     (refuse_in_tests.py)
   library for C, built              the static library, over what the gate proved (build_c_library.sh)
-  library for C                     its scripts, calls, examples and names (check_c_library.py)
+  library for C                     its scripts, calls, examples and names, and programs in five languages that are killed and
+                                    started again (check_c_library.py)
+  library for C, its memory         the same by valgrind and address sanitizer (check_c_library.py --memory)
+  a daemon that is killed           at each of its writes, and started again (check_daemon.py)
 
 --quick runs what stands before the gate alone, and --after-gate what stands after it, on the program that an earlier gate or
 `rt run` left, or on PATH. --seed is that of the generated scripts, 1 if not said.
@@ -111,7 +114,7 @@ def gate(said: str) -> Optional[Counts]:
 
 
 def tried_and_wrong(said: str) -> Optional[Counts]:
-    """The last line of check_links.py, run_examples.py, check_statuses.py and check_c_library.py."""
+    """The last line of check_links.py, run_examples.py, check_statuses.py, check_c_library.py and check_daemon.py."""
     found = re.search(r"^(\d+) (?:names|examples|runs|checks), (\d+) wrong\s*\Z", said, re.M)
     return (int(found[1]) - int(found[2]), int(found[2])) if found else None
 
@@ -195,10 +198,13 @@ def before_gate() -> List[Part]:
 def on_c_library() -> List[Part]:
     """What is tested of the library for C, which is built first."""
     build = ["tools/build_c_library.sh", "--after-gate", str(C_LIBRARY.parent)]
-    check = python("dev/check_c_library.py", C_LIBRARY.parent)
-    return [
-        Part("library for C, built", build, 1500, built, ("cc", "ar")),
-        Part("library for C", check, 200, tried_and_wrong, ("cc",), C_LIBRARY),
+    checks = (
+        ("library for C", "dev/check_c_library.py", []),
+        ("library for C, its memory", "dev/check_c_library.py", ["--memory"]),
+        ("a daemon that is killed", "dev/check_daemon.py", []),
+    )
+    return [Part("library for C, built", build, 1500, built, ("cc", "ar"))] + [
+        Part(name, python(script, *words, C_LIBRARY.parent), 400, tried_and_wrong, ("cc",), C_LIBRARY) for name, script, words in checks
     ]
 
 

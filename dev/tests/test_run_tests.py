@@ -19,6 +19,7 @@ SAYS = {
     "dev/refuse_allocations.py": "261 allocations\n   170 out of memory",
     "dev/refuse_in_tests.py": "a::b: 40 allocations refused, 0 runs failed\nc: 60 allocations refused, 0 runs failed",
     "dev/check_c_library.py": "names right\nRust skipped, since cargo isn't there\n9 checks, 0 wrong",
+    "dev/check_daemon.py": "700 checks, 0 wrong",
     "fuzz/fuzz.py": "1,060 scripts, 55,530 lines, 9 bytes, 0 wrong answers, 0 other statuses, 0 hangs.",
     "fuzz/explain.py": "60 logs, 125 ends\n1,352 groups, 800 subsets, 0 wrong",
     "follow/checks/many.py": "5,000 lines in 40 s\n7600 checks, 0 wrong",
@@ -52,7 +53,7 @@ echo "{last}"
 exit {status}
 """
 BUILT_C = 'mkdir -p "$2" && touch "$2/libpgpeer.so"'
-ON_C = 1 + 9  # the build of the library for C, and its checks
+ON_C = 1 + 2 * 9 + 700  # the build of the library for C, and its checks
 FOLLOWED, IN_CEPH = 7600 + 14 + 5, 1175
 ALL = 412 + ON_C + 4 + 110 + 4 + 47 + 14 + 24 + 1060 + 1352 + 1022 + FOLLOWED + IN_CEPH + 4 * 261 + 2 * 100
 
@@ -157,7 +158,7 @@ class Runs(WithTree):
         for name in SAYS:
             self.stub(name, "Traceback", 1)
         status, lines = self.run_all()
-        self.assertEqual((status, lines[-1]), (1, "119 passed, 18 failed"))
+        self.assertEqual((status, lines[-1]), (1, "119 passed, 20 failed"))
 
     def test_a_part_without_end_is_stopped(self):
         self.stub("dev/check_statuses.py", "", before="time.sleep(600)")
