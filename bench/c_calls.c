@@ -5,6 +5,9 @@
 //     c_calls line COUNT      the same, by pgp_line
 //     c_calls ask COUNT       what is said of group 0 of pool 1, by pgp_ask, after it was asked for once
 //     c_calls askline COUNT   the same, by pgp_line
+//     c_calls turn COUNT      an info of the group told by pgp_submit_info, and what is said of it then, by pgp_ask
+//     c_calls turnlist COUNT  the same, and its past intervals by pgp_intervals
+//     c_calls turnline COUNT  an info and a question by pgp_line
 //
 // A session is told the lines of standard input first, which isn't timed. Prints how many calls were timed, and the seconds of the
 // processor that they took.
@@ -16,6 +19,8 @@
 #include "pgpeer.h"
 
 enum { GROUPS = 1024 };
+
+static const char ASK[] = "{\"op\":\"ask\",\"pg\":[1,0]}";
 
 static char script[1 << 24];
 static size_t script_length;
@@ -103,13 +108,36 @@ static double by_lines(pgp_session *session, long count) {
 }
 
 static double asked(pgp_session *session, long count, bool by_line) {
-    static const char line[] = "{\"op\":\"ask\",\"pg\":[1,0]}";
     pgp_view view;
     done(pgp_ask(session, 1, 0, &view));
     double before = now();
     for (long at = 0; at < count; at++) {
-        if (by_line) tell(session, line, sizeof line - 1);
+        if (by_line) tell(session, ASK, sizeof ASK - 1);
         else done(pgp_ask(session, 1, 0, &view));
+    }
+    return now() - before;
+}
+
+static double turns(pgp_session *session, long count, bool by_line, bool with_list) {
+    static pgp_interval past[1 << 13];
+    char line[256];
+    pgp_view view;
+    done(pgp_ask(session, 1, 0, &view));
+    pgp_info info = {.pool = 1, .osd = 1, .stamp = view.epoch, .last_update_epoch = 1, .last_update = 2, .complete = 1};
+    int length = snprintf(line, sizeof line,
+                          "{\"op\":\"info\",\"pg\":[1,0],\"from\":[1,0],\"stamp\":%u,\"les\":0,\"history_les\":0,"
+                          "\"last_update\":[1,2],\"log_tail\":[0,0],\"complete\":true}",
+                          view.epoch);
+    double before = now();
+    for (long at = 0; at < count; at++) {
+        if (by_line) {
+            tell(session, line, (size_t)length);
+            tell(session, ASK, sizeof ASK - 1);
+        } else {
+            done(pgp_submit_info(session, &info));
+            done(pgp_ask(session, 1, 0, &view));
+            if (with_list) done(pgp_intervals(session, 1, 0, past, sizeof past / sizeof *past, &wanted));
+        }
     }
     return now() - before;
 }
@@ -119,7 +147,7 @@ int main(int argc, char **argv) {
     const char *mode = argv[1];
     long count = atol(argv[2]);
     script_length = fread(script, 1, sizeof script, stdin);
-    name_objects();
+    if (!strcmp(mode, "first") || !strcmp(mode, "kept") || !strcmp(mode, "line")) name_objects();
     double spent = 0;
     pgp_session session = PGP_SESSION;
     open_told(&session);
@@ -128,6 +156,7 @@ int main(int argc, char **argv) {
     if (!strcmp(mode, "line")) spent = by_lines(&session, count);
     if (!strcmp(mode, "ask")) spent = asked(&session, count, false);
     if (!strcmp(mode, "askline")) spent = asked(&session, count, true);
+    if (!strncmp(mode, "turn", 4)) spent = turns(&session, count, !strcmp(mode, "turnline"), !strcmp(mode, "turnlist"));
     done(pgp_close(&session));
     printf("%ld %.9f\n", strcmp(mode, "first") ? count : count * (long)groups, spent);
     return 0;

@@ -14,6 +14,7 @@ With --limits it prints the memory and the time of a session at the limits in pl
 that make the largest map, ask for each group, tell three infos of each, and fill the log. Needs GNU time (Debian: time) too.
 """
 
+import functools
 import itertools
 import os
 import random
@@ -23,12 +24,13 @@ import subprocess
 import sys
 import tempfile
 
-from make_inputs import HOST, IN, INPUTS as SCRIPTS, compact, copies, outage_of_one, tree
+from make_inputs import HOST, IN, INPUTS as SCRIPTS, compact, copies, one_group, outage_of_one, tree
 from measure import HERE, command_line, measure, table
 
 from compare_with_ceph import text_of
 
 ASKS, KEPT, ROUNDS, INPUTS, LINES = 400_000, 2_000_000, 20, 100_000, 200_000
+TURNS = {1: 50_000, 4_000: 1_000}  # how many, by the past intervals of the group
 
 
 def run(*command, lines=b""):
@@ -108,7 +110,25 @@ def ways(options, folder):
         located, asked = (lambda number: compact({"op": "locate", "pool": 1, "name": f"object-{number % 4096}"})), (lambda _: compact({"op": "ask", "pg": [1, 0]}))
         kept.append(("`pgpeer run`, a line with a `locate`", lambda: by_program(options.program, places, LINES, located)))
         view.append(("`pgpeer run`, a line with an `ask`", lambda: by_program(options.program, asks, LINES, asked)))
-    return [first, kept, view]
+    return [first, kept, view, *(turns(options, calls, intervals, count) for intervals, count in TURNS.items())]
+
+
+def turns(options, calls, intervals, count):
+    """Gives the ways of an info and a view of a group that has so many past intervals."""
+    incs = [compact({"op": "inc", "epoch": 2 + number, "up" if number % 2 else "down": [0]}) for number in range(intervals)]
+    lines = "".join(line + "\n" for line in [one_group(), *incs]).encode()
+    told = {"stamp": 1 + intervals, "les": 0, "history_les": 0, "last_update": [1, 2], "log_tail": [0, 0], "complete": True}
+    info, ask = compact({"op": "info", "pg": [1, 0], "from": [1, 0], **told}), compact({"op": "ask", "pg": [1, 0]})
+    names = {
+        "turn": "`pgp_submit_info`, `pgp_ask`",
+        "turnlist": "the same, and `pgp_intervals`",
+        "turnline": "`pgp_line` with an `info`, with an `ask`",
+    }
+    rows = [(f"{name}, {intervals:,}", functools.partial(by_library, calls, mode, count, lines)) for mode, name in names.items()]
+    if options.program:
+        piped = lambda number: f"{info}\n{ask}"
+        rows.append((f"`pgpeer run`, both lines, {intervals:,}", lambda: by_program(options.program, lines, count, piped)))
+    return rows
 
 
 def made(name):
