@@ -80,10 +80,10 @@ class Script:
         ran = subprocess.run([self.program, "run"], input=b"\n".join(lines), capture_output=True, check=True, timeout=60)
         return without_count(ran.stdout.splitlines(keepends=True))
 
-    def is_right(self, answers, begin):
-        """Whether these are the answers to the lines from this one on, which may have been told before."""
+    def is_right(self, answers, begin, once_more=True):
+        """Whether these are the answers to the lines from this one on, which is perhaps told once more."""
         wanted = self.answers[begin : begin + len(answers)]
-        return answers == wanted or begin > 0 and answers[1:] == wanted[1:] and answers[0] == self.twice[begin]
+        return answers == wanted or once_more and answers[1:] == wanted[1:] and answers[0] == self.twice[begin]
 
 
 class Daemons:
@@ -111,7 +111,7 @@ def wrong_start(script, work, kill, how):
     """What is wrong where a daemon is killed at this call, and another one goes on."""
     daemons = Daemons(work)
     answers, status, said = daemons.start(script.lines, kill, how)
-    if status != KILLED or not script.is_right(answers, 0):
+    if status != KILLED or not script.is_right(answers, 0, once_more=False):
         return f"status {status}, {len(answers)} answers, {said}"
     begin = len(answers)
     answers, status, said = daemons.start(script.lines[begin:])

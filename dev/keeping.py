@@ -71,7 +71,7 @@ def build_rust(folder, work, words):
 KEEPERS = (
     Keeper("C", "cc", build_c, SANITIZED, LEAKS),
     Keeper("C++", "c++", build_cpp, SANITIZED, LEAKS),
-    Keeper("Python", sys.executable, build_python, None, []),
+    Keeper("Python", sys.executable, build_python, None, ["--trace-children=yes", "--undef-value-errors=no"]),
     Keeper("Go", "go", build_go, ["-asan"], None),
     Keeper("Rust", "cargo", build_rust, None, LEAKS),
 )
