@@ -14,7 +14,8 @@ file or writes, by kill_at_write.c:
   again   before it, and each daemon that goes on is killed at its call of that number too
 
 A daemon that is started on the file that is left is told the lines that had no answer. Its answers have to be those of the whole script
-too. The first of these lines may have been taken before: then it has the answer of a line that is told twice.
+too. The first of these lines may have been taken before: then it has the answer of a line that is told twice. A third one is asked the
+last questions again.
 
 A file with other lines is no log, and a file has one daemon. The last line is `N checks, M wrong`, and the status is 1 where something
 was wrong. Needs a C compiler, cc or $CC.
@@ -73,6 +74,7 @@ class Script:
 
     def __init__(self, program, path):
         self.program, self.lines = program, with_questions(path.read_bytes())
+        self.last_questions = 1 + max(at for at, it in enumerate(self.lines) if not is_question(it))
         self.answers = self.run(self.lines)
         self.twice = [self.run([*self.lines[: at + 1], it])[-1] for at, it in enumerate(self.lines)]
 
@@ -108,15 +110,15 @@ class Daemons:
 
 
 def wrong_start(script, work, kill, how):
-    """What is wrong where a daemon is killed at this call, and another one goes on."""
+    """What is wrong where a daemon is killed at this call, another one goes on, and a third one is asked the last questions."""
     daemons = Daemons(work)
     answers, status, said = daemons.start(script.lines, kill, how)
     if status != KILLED or not script.is_right(answers, 0, once_more=False):
         return f"status {status}, {len(answers)} answers, {said}"
-    begin = len(answers)
-    answers, status, said = daemons.start(script.lines[begin:])
-    if status != 0 or len(answers) != len(script.lines) - begin or not script.is_right(answers, begin):
-        return f"after {begin} answers: status {status}, {len(answers)} answers, {said}"
+    for begin in (len(answers), script.last_questions):
+        answers, status, said = daemons.start(script.lines[begin:])
+        if status != 0 or len(answers) != len(script.lines) - begin or not script.is_right(answers, begin):
+            return f"after {begin} answers: status {status}, {len(answers)} answers, {said}"
     return None
 
 
