@@ -204,7 +204,7 @@ def on_c_library() -> List[Part]:
         ("a daemon that is killed", "dev/check_daemon.py", []),
     )
     return [Part("library for C, built", build, 1500, built, ("cc", "ar"))] + [
-        Part(name, python(script, *words, C_LIBRARY.parent), 400, tried_and_wrong, ("cc",), C_LIBRARY) for name, script, words in checks
+        Part(name, python(script, *words, C_LIBRARY.parent), 900, tried_and_wrong, ("cc",), C_LIBRARY) for name, script, words in checks
     ]
 
 
