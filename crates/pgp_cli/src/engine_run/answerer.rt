@@ -2,7 +2,7 @@
 ghost use Rattle.std.specs.Prelude.{◌≡◌, [], false, IfOk, IfErr};
 ghost use Rattle.pgp_lines.specs.declared.command.Command.TheVariants.{Ask};
 ghost use Rattle.pgp_group.specs.View.{scratch};
-ghost use Rattle.pgp_core.specs.Answerer.{MayAnswerBy};
+ghost use Rattle.pgp_core.specs.Answerer.{MayAnswerBy, Replies};
 ghost use Rattle.pgp_core.specs.Wants.{LacksReply};
 
 use pgp_core::{Answerer, NoReply, Want, asked_reply, put_reply};
@@ -73,6 +73,15 @@ impl<'a, J: Naming, T: Wait> EngineAnswerer<'a, J, T> {
             Err(AskFault::NoReader) => Err(NoReply::Gone),
         }
     }
+
+    /// The reply to a question about a group.
+    fn reply_to_ask(&mut self, pg: PgId) -> Result<Reply, NoReply>
+        ensures reply { IfOk result (λ reply. Replies false self.old self.new (Ask pg) reply) }
+        ensures later { MayAnswerBy false self.old self.new }
+        ensures lacks { IfErr result (LacksReply false (Ask pg)) }
+    {
+        Ok(asked_reply(pg, self.ask(pg)?))
+    }
 }
 
 impl<'a, J: Naming, T: Wait> Answerer for EngineAnswerer<'a, J, T> {
@@ -130,8 +139,8 @@ impl<'a, J: Naming, T: Wait> Answerer for EngineAnswerer<'a, J, T> {
         pg: PgId,
         text: &mut Vec<u8>,
     ) -> Result<(), NoReply> {
-        let view = self.ask(pg)?;
-        put_reply(alloc, writer, &asked_reply(pg, view), text)?;
+        let reply = self.reply_to_ask(pg)?;
+        put_reply(alloc, writer, &reply, text)?;
         Ok(())
     }
 }
