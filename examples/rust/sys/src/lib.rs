@@ -61,11 +61,7 @@ pub struct View {
 #[derive(Clone, Copy, Debug, Default)]
 pub struct Log {
     pub count: usize,
-    pub incs: usize,
-    pub infos: usize,
-    pub reports: usize,
     pub epoch: u32,
-    pub closed: u8,
 }
 
 /// `pgp_member`: a device in a slot.
