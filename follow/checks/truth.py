@@ -1,5 +1,6 @@
 """Holds what followers answered against the program, run on the lines of the log."""
 
+import math
 import re
 import subprocess
 import threading
@@ -13,6 +14,7 @@ from pgpeer_follow.keys import Entry, Keys
 from pgpeer_follow.log import Log, join
 
 COUNT = re.compile(rb'"count":\d+')
+FULL = b'"refused":"LogFull"'
 
 
 class Recorder:
@@ -108,9 +110,14 @@ def wanted_of(program: str, log: Sequence[Entry], asked: Dict[int, List[bytes]],
     return entries, questions
 
 
+def first_full(entries: Dict[int, bytes]) -> float:
+    """The first place whose entry found the log full."""
+    return min((place for place, answer in entries.items() if FULL in answer), default=math.inf)
+
+
 def faults_of(program: str, log: Sequence[Entry], answers: Sequence[Answer]) -> List[str]:
     """What is wrong with answers: they aren't the program's on the log up to their place, byte for byte; or, but for the counts of
-    entries, on the log without its marks."""
+    entries, on the log without its marks, until that is full."""
     asked: DefaultDict[int, List[bytes]] = defaultdict(list)
     for it in answers:
         if it.line:
@@ -118,13 +125,14 @@ def faults_of(program: str, log: Sequence[Entry], answers: Sequence[Answer]) -> 
     faults: List[str] = []
     for follows_marks in (True, False):
         entries, questions = wanted_of(program, log, asked, follows_marks)
+        end = math.inf if follows_marks else first_full(entries)
         left = {place: iter(it) for place, it in questions.items()}
         for it in answers:
             wanted = next(left[it.at], b"") if it.line else entries.get(it.at, b"")
             found = it.answer
             if not follows_marks:
                 wanted, found = COUNT.sub(b"", wanted), COUNT.sub(b"", found)
-            if found != wanted:
+            if found != wanted and it.at < end:
                 faults.append(f"at {it.at}, {'with' if follows_marks else 'without'} marks: {it.line!r} is answered {found!r}, and not {wanted!r}")
     return faults
 
