@@ -80,6 +80,7 @@ fi
 
 work=$(mktemp -d)
 trap 'rm -rf -- "$work"' EXIT
+rm -f -- "$crate/out/c/libpgpeer.so" # since rt writes through no link
 (cd -- "$crate" && "${how[@]}") >"$work/log" 2>&1 || {
     tail -n 20 -- "$work/log" >&2
     exit 1
