@@ -1,4 +1,4 @@
-"""What `pgpeer explain` says of a group at the end of a script: why it doesn't serve, and what brings it back."""
+"""What `pgpeer explain` says of a group at the end of a script: why it doesn't serve, and what it waits for."""
 
 import json
 import re

@@ -1,7 +1,7 @@
 # Completion of pgpeer for fish: subcommands and options.
 complete -c pgpeer -f
 complete -c pgpeer -n __fish_use_subcommand -a run -d 'answer a script line by line'
-complete -c pgpeer -n __fish_use_subcommand -a explain -d 'say why a group does not serve, and what brings it back'
+complete -c pgpeer -n __fish_use_subcommand -a explain -d 'say why a group does not serve, and what it waits for'
 complete -c pgpeer -n __fish_use_subcommand -a compact -d 'leave reports out of a script that no answer needs any more'
 complete -c pgpeer -n __fish_use_subcommand -a help -d 'print help'
 complete -c pgpeer -n __fish_use_subcommand -s V -l version -d 'print the version'

@@ -133,7 +133,7 @@ fn explain<'a>(alloc: Global) -> Result<Command<'a>, AllocError> {
         .help(LOSSES_HELP);
     Command::new(alloc, "explain")
         .about(
-            "Reads a script from standard input and says why a group doesn't serve, and what brings it back",
+            "Reads a script from standard input and says why a group doesn't serve, and what it waits for",
         )
         .after_help(EXPLAIN_HELP)
         .arg(Arg::new(alloc, "pg").value_name("PG").help(GROUP_HELP))?

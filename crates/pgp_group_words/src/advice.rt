@@ -2,7 +2,7 @@ use super::explanation::Explanation;
 use super::outcome::Outcome;
 use pgp_ids::Seq;
 
-/// What there is to say of a group, and what would bring it back.
+/// What there is to say of a group, and what would end its waiting.
 #[derive(Drop)]
 pub struct Advice {
     pub explanation: Explanation,

@@ -1,7 +1,7 @@
-//! What is told of one group, in words for an operator and as JSON: why it doesn't serve, and what brings it back.
+//! What is told of one group, in words for an operator and as JSON: why it doesn't serve, and what it waits for.
 //!
 //! This layer decides the text of an [`Advice`], and nothing else: that has an [`Explanation`], which is the group's view, the
-//! reasons of pgp_reasons and what is told of its pool, and the [`Outcome`] of each way to bring it back. [`put_words`] and [`put_json`] put the text, and their contracts define it whole. A summary of
+//! reasons of pgp_reasons and what is told of its pool, and the [`Outcome`] of each way on. [`put_words`] and [`put_json`] put the text, and their contracts define it whole. A summary of
 //! groups names devices, counts and epochs in the same way, and is written as JSON by the same parts.
 #![tactic(auto)]
 

@@ -24,7 +24,7 @@ is_down_with starts losses g =
 abbrev pub brings_back : GroupLog → List ℕ → Bool
 brings_back g osds = not (is_down_with osds [] g)
 
--- The smallest sets of the devices that a group waits for which bring it back; a group that isn't down has none. Each device of
+-- The smallest sets of the devices that a group waits for which end its waiting; a group that isn't down has none. Each device of
 -- a set is down and in the map, so it may boot, or be declared lost in its place. A destroyed device is in none: what would boot
 -- under its number is another, empty one.
 abbrev pub ways : GroupLog → List (List ℕ)

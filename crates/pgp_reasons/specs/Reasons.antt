@@ -1,4 +1,4 @@
--- Why a placement group doesn't serve, and what would bring it back.
+-- Why a placement group doesn't serve, and what would end its waiting.
 use Rattle.std.specs.Prelude.{◌≡◌, List, [], Option, Some, true, false}
 use Rattle.std.specs.Option.{option_map_or}
 use Rattle.pgp_code.specs.declared.any.AnyCode.{AnyCode}
@@ -54,7 +54,7 @@ gaps g = option_map_or (λ info. gaps_in info (reported g info.member)) (best g)
 abbrev pub no_ways : Ways
 no_ways = Listed (record { sets = []; more = false })
 
--- these are the smallest sets of the devices that the group waits for which bring it back once they boot; where it isn't down,
+-- these are the smallest sets of the devices that the group waits for which end its waiting once they boot; where it isn't down,
 -- none is listed
 pub record AreWaysOf (g : GroupLog) (ways : Ways) : Type 0 where
   pub down : (prior g).down ≡ true → AreWays (brings_back g) (prior g).blocked_by ways

@@ -1,4 +1,4 @@
-//! Why a placement group doesn't serve, and what would bring it back.
+//! Why a placement group doesn't serve, and what would end its waiting.
 //!
 //! The layers below say that a group is down, waits, or lacks log entries. This one says which past intervals block it, what has
 //! become of their members, and what each lacks. It says which devices have to boot, or be given up for lost, so that the group is

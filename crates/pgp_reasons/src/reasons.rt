@@ -22,7 +22,7 @@ use pgp_map::OsdMap;
 use std::alloc::{AllocError, Global};
 use std::sync::Arc;
 
-/// Why a group doesn't serve, and what would bring it back, beside what its view says.
+/// Why a group doesn't serve, and what would end its waiting, beside what its view says.
 #[derive(Drop)]
 pub struct Reasons {
     /// The last info of each member that has one which counts.
@@ -44,7 +44,7 @@ pub struct Reasons {
     pub gaps: Seq<Gap>,
 }
 
-/// Why the group of this view doesn't serve, and what would bring it back, where the view is by the log of these entries and
+/// Why the group of this view doesn't serve, and what would end its waiting, where the view is by the log of these entries and
 /// the map is the last one of that log. Nothing if the map doesn't have the pool.
 ///
 /// It reads each entry twice at most, and takes memory for the answer and for the group's infos.

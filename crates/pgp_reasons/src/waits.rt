@@ -1,4 +1,4 @@
-//! What a group waits for, and what brings it back.
+//! What a group waits for, and what would end that.
 
 ghost use Rattle.std.specs.Prelude.{◌≡◌, IfOk};
 ghost use Rattle.pgp_map.specs.MapOf.{IsMapOf};
@@ -15,7 +15,7 @@ use pgp_ids::{Info, Seq, View};
 use pgp_map::OsdMap;
 use std::alloc::{AllocError, Global};
 
-/// What a group waits for, and what brings it back.
+/// What a group waits for, and what would end that.
 #[derive(Drop)]
 pub(crate) struct Waits {
     /// The past intervals that block it, in ascending order.

@@ -22,7 +22,7 @@ use pgp_lines::Format;
 use std::alloc::{AllocError, Global};
 use std::io::Write;
 
-/// Reads a script whole, with lines up to this version, and says at its end why the group has its verdict and what brings it back; without a group, how many
+/// Reads a script whole, with lines up to this version, and says at its end why the group has its verdict and what it waits for; without a group, how many
 /// groups have each verdict and for which devices they wait. What is wrong with lines goes to `errors`.
 ///
 /// With `losses` it also tells of ways that declare devices lost. With `json` it says so as one JSON object. `epoch_offset` is added to each epoch except 0.
