@@ -39,9 +39,9 @@ Span = Tuple[int, int]  # the first and the last epoch of an interval
 def clean_spans(log: model.Model, group: Group) -> List[Span]:
     """The intervals of a group in which clean epochs can matter: the current one, and the past ones whose members could serve writes,
     where no map records that they did or the group isn't known to have begun to serve since."""
-    les, code, begin = log.view(group)["les"], log.maps.code(group[0]), log.maps.made_at[group[0]]
-    *past, now = peering.intervals(code, begin, log.histories[group])
-    able = peering.intervals(code, begin, log.histories[group], [it.first for it in past])
+    les, code = log.view(group)["les"], log.maps.code(group[0])
+    *past, now = peering.intervals(code, log.histories[group])
+    able = peering.intervals(code, log.histories[group], [it.first for it in past])
     wanted = [it for it, at_best in zip(past, able) if at_best.rw and (not it.rw or les <= it.last)]
     return [(it.first, it.last) for it in [*wanted, now]]
 
@@ -101,9 +101,9 @@ def places_left(log: model.Model, entries: List[Line], left_out: str = "") -> Li
     return [at for at, it in back if it["op"] in ("inc", "close") or later.reasons(it) - {left_out}][::-1]
 
 
-def compacted(lines: List[Line], left_out: str = "") -> List[Line]:
-    """The entries of these, which make up a legal log, that remain where it is compacted."""
-    log = model.Model()
+def compacted(lines: List[Line], last: int, left_out: str = "") -> List[Line]:
+    """The entries of these, which make up a legal log, that remain where it is compacted. Lines up to the last version are read."""
+    log = model.Model(last)
     for line in lines:
         log.answer(grammar.compact(line))
     return [lines[at] for at in places_left(log, lines, left_out)]
@@ -130,7 +130,8 @@ class Pair:
 
     def __init__(self, rng: random.Random, counted: Counter[str], left_out: str):
         self.rng, self.counted, self.left_out = rng, counted, left_out
-        self.log, self.other = model.Model(), model.Model()
+        self.last = rng.choice((2, 3))
+        self.log, self.other = model.Model(self.last), model.Model(self.last)
         self.story = grammar.Story(rng, self.log, 10**6)
         self.story.most_pools = rng.choice((1, 2))
         self.entries: List[Line] = []  # of the compacted log
@@ -140,18 +141,18 @@ class Pair:
     def compact(self) -> bool:
         """Compacts the other log; whether that is the whole log compacted, and leaves out nothing when done twice."""
         before = len(self.entries)
-        self.entries = compacted(self.entries, self.left_out)
+        self.entries = compacted(self.entries, self.last, self.left_out)
         self.counted["entries before"] += before
         self.counted["entries left"] += len(self.entries)
         self.counted["compactions"] += 1
         self.lines.append(None)
-        self.other = model.Model()
+        self.other = model.Model(self.last)
         for line in self.entries:
             answer = self.other.answer(grammar.compact(line))
             if answer is None or answer.code:
                 return False
         whole = [self.taken[at] for at in places_left(self.log, self.taken, self.left_out)]
-        return compacted(self.entries, self.left_out) == self.entries == whole
+        return compacted(self.entries, self.last, self.left_out) == self.entries == whole
 
     def take(self) -> Optional[Tuple[str, List[Any]]]:
         """One line more; what is wrong then, with all lines."""

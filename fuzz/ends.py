@@ -27,15 +27,29 @@ class End(NamedTuple):
     def script(self) -> bytes:
         return b"".join(line + b"\n" for line in self.lines)
 
+    def options(self) -> List[str]:
+        """The words that have the program read its lines."""
+        return ["--format", "3"] if self.log.last == 3 else []
+
+    def entries(self) -> List[bytes]:
+        """The lines that the log takes."""
+        log, taken = model.Model(self.log.last), []
+        for line in self.lines:
+            before = log.count
+            log.answer(line)
+            if log.count > before:
+                taken.append(line)
+        return taken
+
 
 def first_groups(log: model.Model) -> List[Group]:
     """The first groups of each pool, which the stories are about."""
     return [(pool, pg) for pool, made in log.maps.made.items() for pg in range(min(made["pg_num"], 2))]
 
 
-def ended(name: str, lines: List[bytes], groups: Optional[List[Group]] = None) -> End:
-    """The end of a script of these lines; the first groups are explained where none are named."""
-    log, refused = model.Model(), []
+def ended(name: str, lines: List[bytes], groups: Optional[List[Group]] = None, last: int = 2) -> End:
+    """The end of a script of these lines, up to the last version; the first groups are explained where none are named."""
+    log, refused = model.Model(last), []
     for number, line in enumerate(lines, 1):
         answer = log.answer(line)
         if answer is not None and answer.code:
@@ -43,25 +57,15 @@ def ended(name: str, lines: List[bytes], groups: Optional[List[Group]] = None) -
     return End(name, lines, log, first_groups(log) if groups is None else groups, refused)
 
 
-def entries_of(lines: List[bytes]) -> List[bytes]:
-    """The lines that the log takes."""
-    log, taken = model.Model(), []
-    for line in lines:
-        before = log.count
-        log.answer(line)
-        if log.count > before:
-            taken.append(line)
-    return taken
-
-
 def lines_of(rng: random.Random) -> Iterator[Tuple[bytes, model.Model]]:
     """The lines of a script, each with the log that it leaves: an outage's, or those of the logs of the laws, and broken ones."""
+    last = rng.choice((2, 2, 3))
     if rng.random() < 0.75:
-        log = model.Model()
+        log = model.Model(last)
         story: grammar.Story = outage.Outage(rng, log)
         next_line = story.line
     else:
-        watch = laws.Watch(rng, collections.Counter())
+        watch = laws.Watch(rng, collections.Counter(), last)
         log, story, next_line = watch.log, watch.story, watch.next_line
     broken = rng.choice((0, 0, 0.1))
     for _ in range(rng.choice((50, 100, 200))):
@@ -94,7 +98,9 @@ def ends_of(seed: str, number: int, most: int) -> Iterator[End]:
     rng = random.Random(f"{seed}/{number}")
     lines: List[bytes] = []
     states: Dict[Tuple[Any, ...], int] = {}
+    last = 2
     for line, log in lines_of(rng):
+        last = log.last
         lines.append(line)
         state = interest(log, first_groups(log), most)
         if weight(state):
@@ -102,7 +108,7 @@ def ends_of(seed: str, number: int, most: int) -> Iterator[End]:
     places = sorted(states, key=weight, reverse=True)
     chosen = places[: MOST_ENDS - 1] + rng.sample(places, min(1, len(places)))
     for at in sorted({states[it] for it in chosen}):
-        yield ended(f"{seed}-{number}-{at}", lines[:at])
+        yield ended(f"{seed}-{number}-{at}", lines[:at], last=last)
 
 
 def corner(name: str, pool: Dict[str, Any], *actings: List[Optional[int]]) -> End:

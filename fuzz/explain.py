@@ -35,7 +35,7 @@ import grammar
 import model
 import reasons
 import wording
-from ends import End, corners, ends_of, entries_of
+from ends import End, corners, ends_of
 from maps import Group, Maps
 from reasons import Devices, Way
 
@@ -80,10 +80,10 @@ def said(words: List[str], text: bytes) -> List[bytes]:
 Views = Dict[Group, Dict[str, Any]]
 
 
-def views_after(program: str, before: bytes, epoch: int, way: Way, groups: List[Group]) -> Views:
+def views_after(words: List[str], before: bytes, epoch: int, way: Way, groups: List[Group]) -> Views:
     """What the groups are once devices booted, or were declared lost."""
     asks = b"".join(grammar.compact({"op": "ask", "pg": group}) + b"\n" for group in groups)
-    answers = said([program, "run"], before + grammar.compact(way.incremental(epoch)) + b"\n" + asks)
+    answers = said(words, before + grammar.compact(way.incremental(epoch)) + b"\n" + asks)
     taken, *views = [json.loads(line) for line in answers[-1 - len(groups) :]]
     if taken.get("ok") != "inc" or any(view.get("ok") != "ask" for view in views):
         raise Failed(f"run answers {answers[-1 - len(groups) :]!r} after {way}")
@@ -139,9 +139,10 @@ class Tried(NamedTuple):
 
 def tried_by_run(pool: concurrent.futures.Executor, program: str, end: End, wanted: Dict[Way, List[Group]], most: int) -> Dict[Group, Tried]:
     """What becomes of each group, by the answers of `run`."""
-    before, epoch = b"".join(line + b"\n" for line in entries_of(end.lines)), end.log.maps.epoch + 1
+    words = [program, "run", *end.options()]
+    before, epoch = b"".join(line + b"\n" for line in end.entries()), end.log.maps.epoch + 1
     found: Dict[Group, Tried] = {}
-    for way, views in zip(wanted, pool.map(lambda it: views_after(program, before, epoch, it, wanted[it]), wanted)):
+    for way, views in zip(wanted, pool.map(lambda it: views_after(words, before, epoch, it, wanted[it]), wanted)):
         for group, view in views.items():
             it = found.setdefault(group, Tried(tuple(end.log.view(group)["blocked_by"]), {}, {}))
             it.verdicts[way], it.down[way] = view["verdict"], bool(view["blocked_by"])
@@ -244,7 +245,7 @@ class Told(NamedTuple):
 def told(program: str, end: End, *group: str) -> Told:
     later = ["--epoch-offset", str(OFFSET)]
     calls = [["--json"], ["--json", *later], [], later]
-    runs = [run_of([program, "explain", *group, *words], end.script()) for words in calls]
+    runs = [run_of([program, "explain", *group, *words, *end.options()], end.script()) for words in calls]
     if any(errors != runs[0][1] for _, errors in runs):
         raise Failed(f"explain {' '.join(group)} tells other faults with other options")
     texts, found = [lines for lines, _ in runs], []
@@ -353,7 +354,7 @@ def tried_at(pool: concurrent.futures.Executor, options: argparse.Namespace, end
 def keep(folder: pathlib.Path, end: End, why: List[str]) -> None:
     folder.mkdir(parents=True, exist_ok=True)
     (folder / f"explain-{end.name}.jsonl").write_bytes(end.script())
-    (folder / f"explain-{end.name}.why").write_text("".join(f"{it}\n" for it in why))
+    (folder / f"explain-{end.name}.why").write_text("".join(f"{it}\n" for it in [*why, *filter(None, [" ".join(end.options())])]))
 
 
 def drawn(seed: str, most: int, is_over: Callable[[int], bool]) -> Iterator[Iterator[End]]:

@@ -77,7 +77,7 @@ class Writer:
         self.rng, self.log = rng, model.Model(rng.choice((2, 2, 3)))
         self.story = grammar.Story(rng, self.log, entries)
         if not self.story.is_first_form and self.log.last == 2:
-            self.story.straw2 = 0.02  # lines that are refused then
+            self.story.straw2 = self.story.jumps = 0.02  # lines that are refused then
         self.lines: List[bytes] = []
         self.answers: List[Optional[model.Answer]] = []
 

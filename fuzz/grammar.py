@@ -94,7 +94,7 @@ def trace_code(rng: random.Random, has_versions: bool) -> Dict[str, Any]:
 def versioned(rng: random.Random, line: Dict[str, Any], last: int = 2) -> Dict[str, Any]:
     """The line with a version up to the last, or what it needs; a line that needs none has one at times."""
     needs_two = any(it.get("kind") == "grouped" for it in (line.get("code", {}), *line.get("pools", ())))
-    if any(it["alg"] == "straw2" for it in line.get("crush", ())):
+    if "after" in line or any(it["alg"] == "straw2" for it in line.get("crush", ())):
         version = 3 if rng.random() < 0.95 else rng.choice((None, 1, 2, 4))
     else:
         version = (2 if last == 2 else rng.choice((2, 3))) if needs_two else rng.choice((None, None, None, None, None, 1, 2, last))
@@ -145,7 +145,9 @@ class Story:
         self.plan: List[Dict[str, Any]] = []
         self.asks = rng.choice((0.1, 0.3, 0.6))
         self.is_first_form = rng.random() < 0.35  # no versions, no grouped pools and no clean epochs
-        self.straw2 = 0.4 if log.last == 3 and not self.is_first_form else 0  # of the buckets
+        has_third = log.last == 3 and not self.is_first_form
+        self.straw2 = 0.4 if has_third else 0  # of the buckets
+        self.jumps = rng.choice((0.05, 0.3, 0.9)) if has_third else 0  # of the incrementals, which pass over epochs
         self.is_done = False
 
     def line(self) -> Dict[str, Any]:
@@ -183,11 +185,12 @@ class Story:
     # Incrementals
 
     def inc(self, has_pools: bool = False, **more: Any) -> Dict[str, Any]:
-        rng, now, epoch = self.rng, self.maps.epoch, self.maps.epoch + 1
+        rng, now, step = self.rng, self.maps.epoch, self.step()
+        epoch = step["epoch"]
         up = [osd for osd in self.devices if self.maps.is_up(osd, now)]
         down = [osd for osd in self.devices if not self.maps.is_up(osd, now)]
         chance = lambda part: rng.random() < part  # noqa: E731
-        inc: Dict[str, Any] = {"op": "inc", "epoch": epoch}
+        inc: Dict[str, Any] = {"op": "inc", **step}
         if len(up) < len(self.devices) // 2 or chance(0.4):
             inc["up"] = some(rng, down, 24 if now == 0 else 4)
         boots = inc.get("up", [])
@@ -214,6 +217,14 @@ class Story:
             inc["temp"] = self.temps(inc.get("pools", []))
         inc.update(more)
         return {key: value for key, value in inc.items() if value != [] or key == "crush"}
+
+    def step(self) -> Dict[str, int]:
+        """The keys of the next incremental that say which map it changes, and to which it leads; at times it passes over epochs."""
+        rng, now = self.rng, self.maps.epoch
+        if self.jumps == 0 or rng.random() >= self.jumps:
+            return {"epoch": now + 1}
+        most = rng.choice((0, 1, 1, 2, 5, 40, 100_000)) if rng.random() < 0.99 else (WORD - now) // 2
+        return {"after": now, "epoch": min(now + 1 + rng.randint(0, most), max(WORD, now + 1))}
 
     def leaders(self) -> List[int]:
         """The acting primaries of a few groups."""
@@ -299,7 +310,7 @@ class Story:
         return []
 
     def inc_only(self, **parts: Any) -> Dict[str, Any]:
-        return {"op": "inc", "epoch": self.maps.epoch + 1, **parts}
+        return {"op": "inc", **self.step(), **parts}
 
     # Reports
 

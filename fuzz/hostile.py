@@ -26,7 +26,7 @@ KEYS = (
     "op", "epoch", "up", "down", "gone", "weight", "up_thru", "lost", "pools", "sizes", "temp", "crush", "pg", "from", "stamp",
     "les", "history_les", "last_update", "log_tail", "complete", "log", "pool", "name", "code", "epochs", "id", "kind", "k", "v",
     "size", "min_size", "leaf", "alg", "items", "weights", "", "Op", "zz", "é", '"', "\\", "\n", "\x7f", "last_epoch_clean",
-    "groups",
+    "groups", "after",
 )
 WORDS = ("modify", "delete", "uniform", "list", "straw2", "replicated", "erasure", "grouped", "x" * 255, "x" * 256, "é" * 127, "é" * 128)
 VERSIONS: Tuple[Any, ...] = (0, 3, 3, -1, 4, 1.0, 2.0, "1", "2", None, True, [2], {}, 2**32 + 1, 2**64 + 2, 1, 2)

@@ -82,8 +82,9 @@ def raises_a_flag(before: View, view: View) -> bool:
 class Watch:
     """A log that grows, and the groups of it that the laws are held against."""
 
-    def __init__(self, rng: random.Random, counted: Counter[str]):
-        self.log, self.rng, self.counted = model.Model(), rng, counted
+    def __init__(self, rng: random.Random, counted: Counter[str], last: int = 2):
+        """Lines up to the last version are read."""
+        self.log, self.rng, self.counted = model.Model(last), rng, counted
         self.story = grammar.Story(rng, self.log, 10**6)
         self.story.most_pools = rng.choice((1, 2))
         self.lines: List[Line] = []
@@ -160,9 +161,9 @@ def flag_by_first_epoch() -> None:
     """An interval's flag depends on the map of its first epoch."""
     plain = peering.intervals
 
-    def wrong(code: codes.Code, begin: int, states: List[peering.State], cleans: Any = ()) -> List[peering.Interval]:
-        found = plain(code, begin, states)
-        return [it._replace(rw=peering.may_write(code, it.first, states[it.first - begin], False)) for it in found]
+    def wrong(code: codes.Code, states: List[peering.State], cleans: Any = ()) -> List[peering.Interval]:
+        opening = {state.epoch: state for state in states}
+        return [it._replace(rw=peering.may_write(code, it.first, opening[it.first], False)) for it in plain(code, states)]
 
     peering.intervals = wrong
 
@@ -188,8 +189,8 @@ def flag_by_clean_epochs() -> None:
     """Where a report tells of a clean epoch, up_thru doesn't count."""
     plain = peering.intervals
 
-    def wrong(code: codes.Code, begin: int, states: List[peering.State], cleans: Any = ()) -> List[peering.Interval]:
-        found = plain(code, begin, states, cleans)
+    def wrong(code: codes.Code, states: List[peering.State], cleans: Any = ()) -> List[peering.Interval]:
+        found = plain(code, states, cleans)
         told = [epoch for epoch in cleans if epoch > 0]
         return [it._replace(rw=it.rw and any(it.first <= epoch <= it.last for epoch in told)) for it in found] if told else found
 
@@ -232,7 +233,7 @@ WRONG: Dict[str, Callable[[], None]] = {
 
 
 def begun(rng: random.Random, counted: Counter[str]) -> Callable[[], Optional[Broken]]:
-    watch = Watch(rng, counted)
+    watch = Watch(rng, counted, rng.choice((2, 3)))
     return lambda: next(watch.take(), None)
 
 

@@ -220,23 +220,30 @@ LATER: Dict[int, Dict[str, Shape]] = {  # shapes that a later version has otherw
     2: {"pools": list_of(pool_of_two), "code": is_code_of_two},
     3: {"crush": list_of(is_bucket_of_three)},
 }
+MORE: Dict[int, Dict[str, Dict[str, Shape]]] = {3: {"inc": {"after": word}}}  # keys that a later version has more, from it on
 OPS = tuple(REQUIRED)
-KEYS = {op: {"op", "v", *REQUIRED[op], *OPTIONAL.get(op, {})} for op in OPS}
+
+
+def version_read(value: Dict[str, Any], last: int) -> int:
+    """The version in which the keys of an object are read: the one that it says, else 1, and the last where it says none up to that."""
+    version = value.get("v", 1)
+    return version if number(1, last)(version) else last
+
+
+def more_keys(op: str, version: int) -> Dict[str, Shape]:
+    """The keys that an operation has by this version and hadn't in the first."""
+    return {key: shape for since, more in MORE.items() if since <= version for key, shape in more.get(op, {}).items()}
 
 
 def least_bad(op: str, value: Dict[str, Any], last: int) -> Optional[str]:
-    """The least key of an object that is absent though required, or has a value of another shape.
-
-    Where the object says no version it is 1; where it says none up to the last, the other keys are read as in the last.
-    """
-    is_version = number(1, last)
-    shapes = {**REQUIRED[op], **OPTIONAL.get(op, {}), "v": is_version}
+    """The least key of an object that is absent though required, or has a value of another shape."""
+    version = version_read(value, last)
+    shapes = {**REQUIRED[op], **OPTIONAL.get(op, {}), **more_keys(op, version), "v": number(1, last)}
     if op == "trace":
         is_replicated = isinstance(value.get("code"), dict) and value["code"].get("kind") == "replicated"
         shapes["epochs"] = replicated_epochs if is_replicated else placed_epochs
-    version = value.get("v", 1)
     for since, later in LATER.items():
-        if since <= (version if is_version(version) else last):
+        if since <= version:
             shapes.update((key, shape) for key, shape in later.items() if key in shapes)
     bad = [key for key, shape in shapes.items() if key in value and not shape(value[key])]
     return min(bad + [key for key in REQUIRED[op] if key not in value], default=None)
@@ -255,9 +262,9 @@ def read(line: bytes, last: int = 2) -> Union[Command, Fault]:
     except (ValueError, RecursionError):
         return Fault(31, "NotJson")
     op = value.get("op") if isinstance(value, dict) else None
-    if not isinstance(op, str) or op not in KEYS:
+    if not isinstance(op, str) or op not in OPS:
         return Fault(32, "NoOp")
-    unknown = value.keys() - KEYS[op]
+    unknown = value.keys() - {"op", "v", *REQUIRED[op], *OPTIONAL.get(op, {}), *more_keys(op, version_read(value, last))}
     if unknown:
         return Fault(33, "UnknownKey", min(unknown), op)
     bad = least_bad(op, value, last)

@@ -63,10 +63,11 @@ class Said:
 
 
 class Maps:
-    """The maps of all epochs up to the last."""
+    """The maps of all epochs up to the last. An epoch that was passed over has the map before it."""
 
     def __init__(self) -> None:
         self.epoch = 0
+        self.epochs: List[int] = []  # of the incrementals
         self.made: Dict[int, Dict[str, Any]] = {}  # pools by number
         self.made_at: Dict[int, int] = {}
         self.codes: Dict[int, Code] = {}
@@ -75,6 +76,10 @@ class Maps:
         self.sizes, self.temps, self.trees, self.weighings = Said(), Said(), Said(), Said()
         self.placements: Dict[Any, List[Place]] = {}
         self.memberships: Dict[Any, Membership] = {}
+
+    def epochs_from(self, epoch: int) -> List[int]:
+        """The epochs of the incrementals from this one on."""
+        return self.epochs[bisect.bisect_left(self.epochs, epoch) :]
 
     # Facts of an epoch
 
@@ -149,7 +154,7 @@ class Maps:
         up, down, gone = (inc.get(key, []) for key in ("up", "down", "gone"))
         weight, up_thru, lost = (inc.get(key, []) for key in ("weight", "up_thru", "lost"))
         named = [*down, *gone, *(osd for osd, _ in itertools.chain(weight, up_thru, lost))]
-        yield 10, epoch != now + 1
+        yield 10, inc.get("after", max(0, epoch - 1)) != now or epoch <= now
         yield 11, self.names_twice(inc, up + down + gone, (weight, up_thru, lost))
         yield 12, any(not self.exists(osd, now) and osd not in up for osd in named)
         yield 13, any(self.is_up(osd, now) for osd in up)
@@ -198,6 +203,7 @@ class Maps:
     def take(self, inc: Incremental) -> None:
         """Takes an incremental that isn't refused."""
         self.epoch = epoch = inc["epoch"]
+        self.epochs.append(epoch)
         for key in ("up", "down", "gone"):
             for osd in inc.get(key, []):
                 self.states.say(osd, epoch, key)

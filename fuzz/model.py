@@ -89,6 +89,8 @@ class Model:
             yield "incrementals with grouped pools"
         if any(bucket["alg"] == "straw2" for bucket in value.get("crush", ())):
             yield "incrementals with straw2 buckets"
+        if value["op"] == "inc" and value["epoch"] > value.get("after", value["epoch"]) + 1:
+            yield "incrementals that pass over epochs"
         if value["op"] == "trace" and codes.is_grouped(codes.code_of(value["code"])):
             yield "traces of grouped codes"
         if value["op"] == "ask":
@@ -103,8 +105,7 @@ class Model:
         infos = [report for report in self.reports.get(group, []) if report["op"] == "info"]
         if peering.cleans_of(infos) <= {0}:
             return []
-        found, begin = self.view(group)["intervals"], self.maps.made_at[group[0]]
-        plain = peering.intervals(self.maps.code(group[0]), begin, self.histories[group])
+        found, plain = self.view(group)["intervals"], peering.intervals(self.maps.code(group[0]), self.histories[group])
         return [past["first"] for past, it in zip(found, plain) if past["rw"] and not it.rw]
 
     def refused(self, op: str, code: int, name: str, tree: Optional[int] = None) -> Answer:
@@ -155,8 +156,9 @@ class Model:
         """All that the log says of a group that is there. It is kept until the log gets longer."""
         count, found = self.views.get(group, (-1, {}))
         if count != self.count:
-            history, begin = self.histories.setdefault(group, []), self.maps.made_at[group[0]]
-            history += [peering.state(self.maps, group, it) for it in range(begin + len(history), self.maps.epoch + 1)]
+            history = self.histories.setdefault(group, [])
+            begin = history[-1].epoch + 1 if history else self.maps.made_at[group[0]]
+            history += [peering.state(self.maps, group, it) for it in self.maps.epochs_from(begin)]
             found = peering.view(self.maps, group, history, self.reports.get(group, []))
             self.views[group] = self.count, found
         return found
@@ -179,11 +181,11 @@ class Model:
 
     def trace(self, question: Dict[str, Any]) -> Answer:
         states = []
-        for it in question["epochs"]:
+        for epoch, it in enumerate(question["epochs"], 1):
             up, acting = tuple(it["up"]), tuple(it["acting"])
             lists = up, maps.primary_of(up), acting, maps.primary_of(acting)
-            states.append(peering.State(maps.Membership(*lists, it["size"], it["min_size"]), it["up_from"], it["up_thru"]))
-        *past, now = peering.intervals(codes.code_of(question["code"]), 1, states)
+            states.append(peering.State(epoch, maps.Membership(*lists, it["size"], it["min_size"]), it["up_from"], it["up_thru"]))
+        *past, now = peering.intervals(codes.code_of(question["code"]), states)
         return Answer(compact({"first": now.first, "intervals": peering.past_shown(past), "ok": "trace"}), "trace", 0)
 
 

@@ -30,8 +30,9 @@ class Outage(grammar.Story):
         change = self.change([osd for osd in now.acting if osd is not None])
         if now.acting_primary is None or self.rng.random() < 0.2:
             return self.inc_only(**change)
-        self.plan = [{"op": "inc", "epoch": self.maps.epoch + 2, **change}]
-        return self.inc_only(up_thru=[[now.acting_primary, self.maps.epoch + 1]])
+        record = self.inc_only(up_thru=[[now.acting_primary, self.maps.epoch + 1]])
+        self.plan = [{"op": "inc", "epoch": record["epoch"] + 1, **change}]
+        return record
 
     def change(self, acting: List[int]) -> Dict[str, Any]:
         """Devices that fall, boot, are declared lost and are destroyed."""

@@ -15,8 +15,10 @@ Report = Dict[str, Any]
 
 
 class State(NamedTuple):
-    """A group at one epoch: its membership, and what the map of that epoch says of the acting primary."""
+    """A group at one epoch: its membership, and what the map of that epoch says of the acting primary. An epoch that was passed
+    over has the state before it."""
 
+    epoch: int
     members: Membership
     up_from: int
     up_thru: int
@@ -31,20 +33,21 @@ class Interval(NamedTuple):
     rw: bool
 
 
-def intervals(code: Code, begin: int, states: List[State], cleans: Collection[int] = ()) -> List[Interval]:
-    """The intervals of a group whose first state is that of the epoch `begin`, and whose infos tell of these clean epochs."""
-    found, first = [], begin
-    for _, run in itertools.groupby(states, key=lambda state: state.members):
-        run_states = list(run)
-        last = first + len(run_states) - 1
+def intervals(code: Code, states: List[State], cleans: Collection[int] = ()) -> List[Interval]:
+    """The intervals of a group that has these states, and whose infos tell of these clean epochs. An interval lasts until the
+    next one begins."""
+    runs = [list(run) for _, run in itertools.groupby(states, key=lambda state: state.members)]
+    lasts = [run[0].epoch - 1 for run in runs[1:]] + [states[-1].epoch]
+    found = []
+    for run, last in zip(runs, lasts):
+        first = run[0].epoch
         is_clean = any(first <= epoch <= last for epoch in cleans)
-        found.append(Interval(first, last, run_states[0].members, may_write(code, first, run_states[-1], is_clean)))
-        first = last + 1
+        found.append(Interval(first, last, run[0].members, may_write(code, first, run[-1], is_clean)))
     return found
 
 
 def may_write(code: Code, first: int, end: State, is_clean: bool) -> bool:
-    """Tells whether a group may have gone read-write in an interval, by the state of its last epoch, and by whether an info
+    """Tells whether a group may have gone read-write in an interval, by its last state, and by whether an info
     tells that the group was clean in one of its epochs."""
     acting = members(code, end.members.acting)
     return (
@@ -64,7 +67,7 @@ def state(maps: Maps, group: Group, epoch: int) -> State:
     now = maps.membership(group, epoch)
     leader = now.acting_primary
     facts = (0, 0) if leader is None else (maps.up_from(leader, epoch), maps.up_thru(leader, epoch))
-    return State(now, *facts)
+    return State(epoch, now, *facts)
 
 
 # The prior set
@@ -143,11 +146,11 @@ def peer_state(member: Member, info: Report, best: Report, log: List[Tuple[Versi
 
 
 def view(maps: Maps, group: Group, history: List[State], reports: List[Report]) -> Dict[str, Any]:
-    """All that a log says of a group that is there, by the states that it had from the epoch that made its pool, and by its
+    """All that a log says of a group that is there, by its states from the incremental that made its pool on, and by its
     reports. Gives the keys of the answer but count, ok and pg."""
     code = maps.code(group[0])
     infos = [report for report in reports if report["op"] == "info"]
-    *past, now = intervals(code, maps.made_at[group[0]], history, cleans_of(infos))
+    *past, now = intervals(code, history, cleans_of(infos))
     current, first = now.members, now.first
     les = max((info["history_les"] for info in infos), default=0)
     acting = members(code, current.acting)

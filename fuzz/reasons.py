@@ -165,8 +165,7 @@ class Reckoned:
         self.code = self.maps.code(group[0])
         self.reports = log.reports.get(group, [])
         self.cleans = peering.cleans_of([it for it in self.reports if it["op"] == "info"])
-        history = log.histories[group]
-        *self.past, _ = peering.intervals(self.code, self.maps.made_at[group[0]], history, self.cleans)
+        *self.past, _ = peering.intervals(self.code, log.histories[group], self.cleans)
 
     # What brings it back
 

@@ -40,7 +40,12 @@ def question(rng: random.Random, line: Line) -> Line:
 
 
 def epoch_gap(rng: random.Random, inc: Line, maps: Maps, devices: List[int]) -> None:
-    inc["epoch"] = rng.choice((maps.epoch, maps.epoch + 2, 0, WORD))
+    if inc.get("v") == 3 and rng.random() < 0.7:
+        inc["after"] = rng.choice((maps.epoch, maps.epoch, maps.epoch + 1, max(0, maps.epoch - 1), inc["epoch"], WORD))
+    if "after" not in inc:
+        inc["epoch"] = rng.choice((maps.epoch, maps.epoch + 2, 0, WORD))
+    elif inc["after"] == maps.epoch:
+        inc["epoch"] = rng.choice((maps.epoch, max(0, maps.epoch - 1), 0))
 
 
 def twice(rng: random.Random, inc: Line, maps: Maps, devices: List[int]) -> None:

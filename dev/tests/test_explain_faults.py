@@ -244,7 +244,8 @@ LINES_OF_VERSION_3 = [
         inc(v=3, crush=[bucket(alg="straw2", items=[0, 1], weights=[1])]),
         "BadField: crush[0].weights is not a list of the right length",
     ),
-    (inc(v=3, after=0), 'UnknownKey: unknown key "after"'),
+    (inc(v=2, after=0), 'UnknownKey: unknown key "after"'),
+    (inc(v=3, after=-1), "BadField: after is not a whole number from 0 to 4294967295"),
     (inc(pools=[grouped([[[0], 1]])]), "BadField: pools is not what a line of its version can have"),
 ]
 

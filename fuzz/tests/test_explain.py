@@ -369,9 +369,14 @@ class Wording(unittest.TestCase):
         self.assertEqual(list(wording.summary_lines(found)), wanted)
 
 
+def read_up_to(words):
+    """Up to which version the program with these words reads lines."""
+    return int(words[words.index("--format") + 1]) if "--format" in words else 2
+
+
 def by_model(words, text, fault=lambda found, lines, words: None):
     """The lines that a program writes which is the model; the fault changes what it says."""
-    log = model.Model()
+    log = model.Model(read_up_to(words))
     answers = [log.answer(line) for line in text.splitlines()]
     if words[1] == "run":
         return [answer.text.encode() for answer in answers if answer]
@@ -395,7 +400,7 @@ def by_model(words, text, fault=lambda found, lines, words: None):
 
 def run_by_model(words, text, fault):
     """The same, with the lines on standard error."""
-    errors = [b"%s (10): why" % it.encode() for it in ends.ended("", text.splitlines()).refused]
+    errors = [b"%s (10): why" % it.encode() for it in ends.ended("", text.splitlines(), last=read_up_to(words)).refused]
     return by_model(words, text, fault), errors[: 0 if fault is silent else None]
 
 
@@ -445,7 +450,7 @@ class Runs(unittest.TestCase):
 
     def test_each_subset_is_tried(self):
         end = self.end()
-        self.assertEqual((end.refused, ends.entries_of(end.lines)), (["line 3: NoOp"], [*end.lines[:2], *end.lines[3:]]))
+        self.assertEqual((end.refused, end.entries()), (["line 3: NoOp"], [*end.lines[:2], *end.lines[3:]]))
         ways = [reasons.Way(*it) for it in (((), ()), ((1,), ()), ((), (1,)), ((0,), ()), ((0, 1), ()), ((0,), (1,)), ((), (0,)), ((1,), (0,)), ((), (0, 1)))]
         self.assertEqual(list(explain.tries(end, 8)), ways)
         self.assertEqual(explain.tries(end, 1), {})
@@ -501,12 +506,15 @@ class Logs(unittest.TestCase):
         self.assertEqual([end.log.view(GROUP)["verdict"] for end in ends.corners()], ["Down", "Down", "Down"])
 
     def test_ends_have_groups_that_are_blocked_in_many_ways(self):
-        found = set()
+        found, passed_over = set(), 0
         for number in range(25):
-            for end in ends.ends_of("a", number, 8):
+            for end in ends.ends_of("d", number, 8):
+                epochs = end.log.maps.epochs
+                passed_over += epochs != list(range(1, len(epochs) + 1))
                 for group in {group for groups in explain.tries(end, 8).values() for group in groups}:
                     found.add(tuple(len(it) for it in reasons.Reckoned(end.log, group).sets()))
         self.assertLessEqual({(1,), (2,), (3,), (1, 1), (1, 2)}, found)
+        self.assertGreater(passed_over, 5)
 
 
 if __name__ == "__main__":

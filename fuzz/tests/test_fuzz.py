@@ -53,6 +53,30 @@ class Scripts(unittest.TestCase):
         found = [log.answer(grammar.compact(story.line())) for _ in range(300)]
         self.assertGreater(sum(answer.code == 0 for answer in found), 250)
 
+    def test_incrementals_pass_over_epochs(self):
+        taken = refused = 0
+        for seed in range(12):
+            log = model.Model(3)
+            story = grammar.Story(random.Random(seed), log)
+            for _ in range(150):
+                answer = log.answer(grammar.compact(story.line()))
+                taken += "incrementals that pass over epochs" in answer.about
+                refused += answer.code == 10
+        self.assertGreater(taken, 20)
+        self.assertLess(refused, taken // 4)
+
+    def test_each_epoch_gap(self):
+        for last, first in ((2, {"op": "inc", "epoch": 3}), (3, {"op": "inc", "v": 3, "epoch": 3, "after": 2})):
+            log, found = model.Model(last), set()
+            for epoch in (1, 2):
+                log.answer(grammar.compact({"op": "inc", "epoch": epoch, "up": [epoch]}))
+            for seed in range(200):
+                line = dict(first)
+                rules.epoch_gap(random.Random(seed), line, log.maps, [1, 2])
+                self.assertEqual(log.answer(grammar.compact(line)).code, 10, line)
+                found.add((line.get("after", 2) == 2, line["epoch"] > 2))
+            self.assertEqual(found, {(True, True), (True, False)} if last == 2 else {(True, False), (False, True)})
+
     def test_scripts_of_the_first_form_and_others(self):
         found = set()
         for seed in range(12):

@@ -141,8 +141,17 @@ class VersionThree(unittest.TestCase):
         self.assertEqual(fault((self.TREE % '"v":4,').encode(), 3), (34, "v"))
         self.assertEqual(fault(tree.replace(b"[0,1]}", b"[0]}"), 3), (34, "crush"))
 
-    def test_it_has_no_key_more(self):
-        self.assertEqual(fault(b'{"op":"inc","v":3,"epoch":2,"after":1}', 3), (33, "after"))
+    def test_it_alone_has_after(self):
+        line = b'{"op":"inc",%s"epoch":2,"after":%s}'
+        self.assertEqual((fault(line % (b'"v":3,', b"1")), fault(line % (b'"v":3,', b"1"), 3)), ((33, "after"), None))
+        for version in (b"", b'"v":1,', b'"v":2,'):
+            self.assertEqual(fault(line % (version, b"1"), 3), (33, "after"), version)
+        self.assertEqual(fault(line % (b'"v":4,', b"1"), 3), (34, "v"))
+        for number in (b"-1", b"4294967296", b"1.0", b"null", b'"1"'):
+            self.assertEqual(fault(line % (b'"v":3,', number), 3), (34, "after"), number)
+        self.assertEqual(fault(b'{"op":"inc","v":3,"crush":0,"after":null}', 3), (34, "after"))
+        for op in (b'"close"', b'"ask","pg":[1,0]'):
+            self.assertEqual(fault(b'{"op":' + op + b',"v":3,"after":1}', 3), (33, "after"), op)
 
 
 class Shapes(unittest.TestCase):

@@ -28,9 +28,9 @@ def answers(script, last=2):
     return [answer.text.encode() for answer in found if answer is not None]
 
 
-def codes(*lines):
+def codes(*lines, last=2):
     """Of each line the code of its refusal, or 0."""
-    return [json.loads(text).get("code", 0) for text in answers(b"\n".join(lines))]
+    return [json.loads(text).get("code", 0) for text in answers(b"\n".join(lines), last)]
 
 
 def inc(epoch, **parts):
@@ -157,15 +157,15 @@ class Incrementals(unittest.TestCase):
 
 class Kept(unittest.TestCase):
     def test_what_is_kept_is_what_a_new_model_says(self):
-        for seed in range(3):
-            log = model.Model()
+        for seed in range(4):
+            log = model.Model(2 + seed % 2)
             story = grammar.Story(random.Random(seed), log, 150)
             taken = []
             for _ in range(300):
                 line = grammar.compact(story.line())
                 if log.answer(line).code == 0:
                     taken.append(line)
-            new = model.Model()
+            new = model.Model(log.last)
             for line in taken:
                 entry = json.loads(line)
                 if entry["op"] in ("inc", "info", "entries", "close"):
@@ -217,6 +217,64 @@ class Cleans(unittest.TestCase):
                 self.assertEqual(log.answer(line).code, 0)
             found.append(log.raised((1, 0)))
         self.assertEqual((found[0], sorted(found[1:])), ([2], [[], [2]]))
+
+
+class PassedOver(unittest.TestCase):
+    """Incrementals that pass over epochs."""
+
+    POOL = {"id": 1, "pg_num": 1, "kind": "replicated", "size": 2, "min_size": 1, "leaf": 0}
+    ROOT = {"id": -1, "type": 1, "alg": "uniform", "items": [0, 1]}
+    # The group is made in epoch 10, and has both devices up to 39, one of them up to 99, and both from 100 on.
+    MAPS = (
+        inc(10, v=3, after=0, up=[0, 1], crush=[ROOT], pools=[POOL]), inc(20, v=3, after=10), inc(40, v=3, after=20, down=[1]),
+        inc(100, v=3, after=40, up=[1]),
+    )  # fmt: skip
+    ASK = b'{"op":"ask","pg":[1,0]}'
+
+    def view(self, *lines):
+        return json.loads(answers(b"\n".join((*lines, self.ASK)), 3)[-1])
+
+    def test_another_map_or_no_later_epoch_is_a_gap(self):
+        first = self.MAPS[0]
+        for parts in ({"after": 9}, {"after": 11}, {"after": 0}, {"after": 12}, {}):
+            self.assertEqual(codes(first, inc(12, v=3, **parts), last=3), [0, 10], parts)
+        for epoch in (0, 9, 10):
+            self.assertEqual(codes(first, inc(epoch, v=3, after=10), last=3), [0, 10], epoch)
+        for line in (inc(11), inc(11, v=3), inc(11, v=3, after=10), inc(2**32 - 1, v=3, after=10)):
+            self.assertEqual(codes(first, line, last=3), [0, 0], line)
+        self.assertEqual((codes(inc(0)), codes(inc(0, v=3, after=0), last=3)), ([10], [10]))
+
+    def test_an_interval_lasts_until_the_next(self):
+        view = self.view(*self.MAPS)
+        self.assertEqual([(it["first"], it["last"]) for it in view["intervals"]], [(10, 39), (40, 99)])
+        self.assertEqual((view["first"], view["epoch"]), (100, 100))
+        self.assertEqual(self.view(*self.MAPS[:2])["first"], 10)
+
+    def test_the_map_before_tells_of_the_epochs_that_were_passed_over(self):
+        leader = self.view(*self.MAPS[:2])["acting_primary"]
+        for known, flag in ((20, True), (10, True), (9, False)):
+            maps = (self.MAPS[0], inc(20, v=3, after=10, up_thru=[[leader, known]]), *self.MAPS[2:])
+            self.assertEqual(self.view(*maps)["intervals"][0]["rw"], flag, known)
+
+    def test_clean_epochs_that_were_passed_over(self):
+        info = Cleans.info
+        for clean, first in ((9, False), (10, True), (15, True), (30, True), (39, True), (40, False)):
+            self.assertEqual(self.view(*self.MAPS, info(self, clean, 100))["intervals"][0]["rw"], first, clean)
+
+    def test_stamps_that_were_passed_over(self):
+        found = codes(*self.MAPS, *(Cleans.info(self, 0, stamp) for stamp in (5, 50, 100, 101)), last=3)
+        self.assertEqual(found, [0] * 7 + [62])
+
+    def test_without_steps_in_between_it_is_the_same(self):
+        """Incrementals that change nothing, in the place of epochs that were passed over."""
+        maps = [json.loads(line) for line in self.MAPS]
+        there = {it["epoch"]: {key: value for key, value in it.items() if key not in ("op", "v", "epoch", "after")} for it in maps}
+        whole = [inc(epoch, **there.get(epoch, {})) for epoch in range(1, 101)]
+        infos = [Cleans.info(self, clean, 100) for clean in (0, 15, 39, 60)]
+        for count in range(5):
+            passed, stepped = self.view(*self.MAPS, *infos[:count]), self.view(*whole, *infos[:count])
+            self.assertEqual((passed.pop("count"), stepped.pop("count")), (4 + count, 100 + count))
+            self.assertEqual(passed, stepped)
 
 
 class Grouped(unittest.TestCase):

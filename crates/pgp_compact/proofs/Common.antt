@@ -1,6 +1,6 @@
 -- The names that most proofs of this crate cite, passed on from one place. Declares nothing.
-pub use Rattle.pgp_group.proofs.Common.{AnyCode, AreNumbered, Bool, Contains, Entry, GroupLog, History, Incremental, Info, IsAfter, IsPresent, IsSilent, List, LogEntry, Member, Membership, None, Option, OsdMap, Past, PgId, PrimaryFacts, Report, Some, Verdict, [], ap, append_assoc, ap₂, are_checked, arith, begun, best, by_number, code_of, cond, counted_infos, current_first, drop, enough_of, epoch, false, filter, filter_map, find, flat_map, fold, get_or, group_history, group_in, group_with, has_group, has_member, heard, holds, if◌then◌else◌, inc_of, incs, incs_of, infos_of, inl, inr, is_by_place, is_counted, is_same, is_same_group, is_same_member, is_some, last_of_each_member, last_or, last_place, leader, length, les, list_any, map, map_fault, max, may_lie_on, may_move, membership, nat_cmp, nat_eq, nat_le, nat_lt, not, option_and_then, option_map, option_map_or, past, past_intervals, peer_states, pool, pool_membership, present_members, primary_facts, prior, refl, report_of, reported, reports_of, rules, scratch, set, stepped, subst, suc, sym, take, then_with, true, view_of, whole_best, zero, ℕ, ◌&&◌, ◌++◌, ◌+◌, ◌<◌, ◌||◌, ◌∙◌, ◌∷◌, ◌≡◌, ◌≢◌, ◌≤◌}
-pub use Rattle.pgp_group.proofs.Common.{All-contains, AllPairs-first, AllPairs-rest, Contains-cases, Contains-here, Contains-later, Contains-nil, IfOk-weaker, and_parts, any-contains, append-nil, cases_Bool, cases_lt, cases_order, contains-any, contains-filter, contains-map, current_first-continues, current_first-ends, eq-is_same, filter-append, filter-contains, filter_map-append, find-some, fold-append, get_or_default, get_or_from_slice_get, if_some, is_same-eq, last_where-some, length-append, length-map, length_push, list_any-append, list_any_more, map-append, map-contains, map_some, nat_cmp_total, nat_tests, or-false, or-true, past_intervals-continues, past_intervals-ends, same_Some, slice_get_within, take_all, true≢false, with_items_is, ◌-◌}
+pub use Rattle.pgp_group.proofs.Common.{AnyCode, EpochsAscend, Bool, Contains, Entry, GroupLog, History, Incremental, Info, IsAfter, IsPresent, IsSilent, List, LogEntry, Member, Membership, None, Option, OsdMap, Past, PgId, PrimaryFacts, Report, Some, Verdict, [], ap, append_assoc, ap₂, are_checked, arith, begun, best, by_number, code_of, cond, counted_infos, current_first, drop, enough_of, epoch, false, filter, filter_map, find, flat_map, fold, get_or, group_history, group_in, group_with, grown, grown_with, has_group, has_member, heard, holds, if◌then◌else◌, inc_of, incs, incs_of, infos_of, inl, inr, is_by_place, is_counted, is_same, is_same_group, is_same_member, is_some, last_of_each_member, last_or, last_place, leader, length, les, list_any, map, map_fault, max, may_lie_on, may_move, membership, nat_cmp, nat_eq, nat_le, nat_lt, not, option_and_then, option_map, option_map_or, passed_over, past, past_intervals, peer_states, pool, pool_membership, present_members, primary_facts, prior, refl, report_of, reported, reports_of, rules, scratch, set, subst, suc, sym, take, then_with, true, view_of, whole_best, zero, ℕ, ◌&&◌, ◌++◌, ◌+◌, ◌<◌, ◌||◌, ◌∙◌, ◌∷◌, ◌≡◌, ◌≢◌, ◌≤◌}
+pub use Rattle.pgp_group.proofs.Common.{All-contains, AllPairs-first, AllPairs-rest, Contains-cases, Contains-here, Contains-later, Contains-nil, IfOk-weaker, and_parts, any-contains, append-nil, cases_Bool, cases_lt, cases_order, contains-any, contains-filter, contains-map, current_first-goes_on, current_first-over, eq-is_same, filter-append, filter-contains, filter_map-append, find-some, fold-append, get_or_default, get_or_from_slice_get, if_some, is_same-eq, last_where-some, length-append, length-map, length_push, list_any-append, list_any_more, map-append, map-contains, map_some, nat_cmp_total, nat_tests, or-false, or-true, past_intervals-goes_on, past_intervals-over, same_Some, slice_get_within, take_all, true≢false, with_items_is, ◌-◌}
 pub use Rattle.std.proofs.Common.{AllPairs, Bor, IfSome, reverse}
 pub use Rattle.std.proofs.Math.Seq.{drop-cons, drop-length}
 pub use Rattle.std.proofs.lemmas.Bool.{cases_eq}
@@ -33,7 +33,7 @@ pub use Rattle.pgp_compact.specs.declared.standing.Standing.{Standing}
 pub use Rattle.pgp_compact.specs.declared.whole.Whole.{Whole}
 pub use Rattle.pgp_group.proofs.FirstLemmas.{along}
 pub use Rattle.pgp_group.proofs.GroupLemmas.{infos-new, infos-other, infos-same, on_ok, reports-other, reports-same}
-pub use Rattle.pgp_group.proofs.GrowthLemmas.{epoch-snoc, has_group-grows, history-begins-made, history-grows, history-last, next_epoch, unmade, numbered}
+pub use Rattle.pgp_group.proofs.GrowthLemmas.{epoch-snoc, has_group-grows, history-begins-made, history-grows, history-last, later_epoch, unmade, epochs_ascend}
 pub use Rattle.pgp_group.proofs.HistoryLemmas.{history-current}
 pub use Rattle.pgp_group.proofs.InterleavingLemmas.{is_of}
 pub use Rattle.pgp_group.proofs.LaterLemmas.{counts_by, fold_max-least, histories, is_after, log-in}
@@ -51,9 +51,10 @@ pub use Rattle.pgp_interval.proofs.IntervalLemmas.{lie_end_to_end, members_at-la
 pub use Rattle.pgp_interval.proofs.Openings.{opening_of-le, opening_of-opens, opening_of-stays}
 pub use Rattle.pgp_interval.specs.Interval.{LieEndToEnd}
 pub use Rattle.pgp_ids.specs.declared.history.EpochState.{EpochState}
-pub use Rattle.pgp_interval.specs.History.{current_state, state_at}
+pub use Rattle.pgp_interval.proofs.GrownLemmas.{grown-more}
+pub use Rattle.pgp_interval.specs.History.{current_state, state_at, stepped}
 pub use Rattle.pgp_interval.specs.ReadWrite.{can_write, is_recorded, was_clean}
-pub use Rattle.pgp_interval.specs.Runs.{current_ending, ends_at, opening_of, opens_at, past_ending, past_ends, past_of}
+pub use Rattle.pgp_interval.specs.Runs.{ending_at, ends_at, opening_of, opens_at, past_ending, past_ends, past_of}
 pub use Rattle.pgp_lists.proofs.Last.{last_or-append}
 pub use Rattle.pgp_lists.proofs.Lists.{any-mapped, any-same, get-last, get-set_other, get-set_same}
 pub use Rattle.pgp_lists.proofs.Members.{any-agree, map-agree}
@@ -65,7 +66,7 @@ pub use Rattle.pgp_lists.proofs.Options.{map_none, some_is}
 pub use Rattle.pgp_lists.proofs.Ranges.{range-contains}
 pub use Rattle.pgp_log.proofs.ComingLemmas.{comes-with_pool, has_group-same}
 pub use Rattle.pgp_log.proofs.FitsLemmas.{nothing_ahead}
-pub use Rattle.pgp_log.proofs.LogLemmas.{front-legal, legal-checked, legal-counts, legal-induction, legal-last, legal-snoc}
+pub use Rattle.pgp_log.proofs.LogLemmas.{front-legal, legal-checked, legal-ascends, legal-induction, legal-last, legal-snoc}
 pub use Rattle.pgp_log.proofs.SharedLemmas.{map-next, next-front, ok-two}
 pub use Rattle.pgp_log.proofs.TakeLemmas.{epoch-inc, epoch-other, faultless-inc, faultless-tree, fits-faultless, incs-inc, incs-other, same-self}
 pub use Rattle.pgp_log.proofs.TouchLemmas.{none-moved, turned-parts}

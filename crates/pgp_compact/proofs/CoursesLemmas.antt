@@ -1,5 +1,5 @@
 -- What is kept of the groups that have reports, as entries are noted and maps follow.
-use Rattle.pgp_compact.proofs.Common.{AnyCode, AreCourses, AreNumbered, Bool, Bor, Course, Courses, EachIsCourse, Entry, GroupPlace, History, IfNone, IfSome, Incremental, Info, IsCourse, IsCourseIn, IsNext, IsReportOf, IsSameButCourse, IsSilent, IsOnCourse, LiesAt, List, Membership, None, Option, OsdMap, Past, PgId, PrimaryFacts, Report, Some, Span, [], any-same, ap, arith, begun, can_write, cases_Bool, cases_eq, code_of, comes-with_pool, cond, current_first-continues, current_first-ends, ended, enough_of, epoch, epoch-snoc, eq-is_same, false, filter, fold-append, front-checked, get-last, get-set_other, get-set_same, get_or, get_or_from_slice_get, group_history, has_group, has_group-grows, has_group-same, history-begins-made, history-current, history-grows, history-last, incs, info_of, infos-new, infos-other, infos-same, inl, inr, is_by_place, is_recorded, is_same, is_same-eq, is_same_group, is_some, last-checked, left-unmoved, length, lies-as-before, lies_on, map, map-append, map_fault, map_some, max, may_leave, may_lie_on, may_move, moves_none, nat_le, nat_lt, nat_tests, next_epoch, none-moved, not, numbered, past_intervals, past_intervals-continues, past_intervals-ends, pool, pool_membership, primary_facts, raw_set-stays, refl, report_of, reports-other, reports-same, same-self, same_group, set, slice_get, slice_get_within, span_of, started_by, stepped, subst, suc, sym, temp-same, then_with, true, true≢false, turned-parts, unmade, unmoved-unplaced, wants_clean, ℕ, ◌&&◌, ◌++◌, ◌||◌, ◌∙◌, ◌∷◌, ◌≡◌, ◌≢◌}
+use Rattle.pgp_compact.proofs.Common.{AnyCode, AreCourses, EpochsAscend, Bool, Bor, Course, Courses, EachIsCourse, Entry, GroupPlace, History, IfNone, IfSome, Incremental, Info, IsCourse, IsCourseIn, IsNext, IsReportOf, IsSameButCourse, IsSilent, IsOnCourse, LiesAt, List, Membership, None, Option, OsdMap, Past, PgId, PrimaryFacts, Report, Some, Span, [], any-same, ap, arith, begun, can_write, cases_Bool, cases_eq, code_of, comes-with_pool, cond, current_first-goes_on, current_first-over, ended, ending_at, enough_of, epoch, epoch-snoc, eq-is_same, false, filter, fold-append, front-checked, get-last, get-set_other, get-set_same, get_or, get_or_from_slice_get, group_history, grown_with, passed_over, last_place, has_group, has_group-grows, has_group-same, history-begins-made, history-current, history-grows, history-last, incs, info_of, infos-new, infos-other, infos-same, inl, inr, is_by_place, is_recorded, is_same, is_same-eq, is_same_group, is_some, last-checked, left-unmoved, length, lies-as-before, lies_on, map, map-append, map_fault, map_some, max, may_leave, may_lie_on, may_move, moves_none, nat_le, nat_lt, nat_tests, later_epoch, none-moved, not, epochs_ascend, past_intervals, past_intervals-goes_on, past_intervals-over, pool, pool_membership, primary_facts, raw_set-stays, refl, report_of, reports-other, reports-same, same-self, same_group, set, slice_get, slice_get_within, span_of, started_by, subst, suc, sym, temp-same, then_with, true, true≢false, turned-parts, unmade, unmoved-unplaced, wants_clean, ℕ, ◌+◌, ◌-◌, ◌&&◌, ◌++◌, ◌||◌, ◌∙◌, ◌∷◌, ◌≡◌, ◌≢◌}
 use Rattle.std.specs.HashMap as hash
 use Rattle.pgp_ids.specs.declared.entry.Entry.TheVariants as entry
 use Rattle.pgp_ids.specs.declared.pool.PoolSpec.{PoolSpec}
@@ -39,8 +39,8 @@ module _ (incs : List Incremental) (inc : Incremental) (after : OsdMap) (next : 
   pub fine : map_fault incs inc ≡ None
   fine = last-checked incs inc next.checked
 
-  counts : AreNumbered incs
-  counts = numbered incs (front-checked incs (inc ∷ []) next.checked)
+  counts : EpochsAscend incs
+  counts = epochs_ascend incs (front-checked incs (inc ∷ []) next.checked)
 
   -- the group lies there by the map, on the same members: its interval goes on
   pub stayed : (pg : PgId) (les first : ℕ) (spans : List Span) (place to : GroupPlace) → IsOnCourse incs pg les first spans place → LiesAt later pg to → is_same place.members to.members ≡ true → IsOnCourse later pg les first spans to
@@ -49,32 +49,35 @@ module _ (incs : List Incremental) (inc : Incremental) (after : OsdMap) (next : 
       let facts : PrimaryFacts = primary_facts incs h.current.acting_primary in
       let here : place.members ≡ h.current = grind (arith, history-current incs pg h is.history_is) in
       let to-here : to.members ≡ h.current = sym (is_same-eq place.members to.members same) ∙ here in
-      let past = past_intervals-continues enough_of is_by_place [] h facts in
+      let past = past_intervals-goes_on enough_of is_by_place [] h (passed_over incs inc) facts in
       record {
-        history = stepped h h.current facts;
+        history = grown_with incs inc h h.current;
         history_is = grind (arith, history-grows incs inc pg h counts fine is.history_is);
-        first_is = is.first_is ∙ sym (current_first-continues h facts);
+        first_is = is.first_is ∙ sym (current_first-goes_on h (passed_over incs inc) facts);
         spans_are = is.spans_are ∙ sym (ap (λ (p : List Past). map span_of (filter (wants_clean h.code les) p)) past);
         lies = lies;
       }
 
   -- on others: its interval ends
   pub moved : (pg : PgId) (les first : ℕ) (spans : List Span) (place to : GroupPlace) (is : IsOnCourse incs pg les first spans place) → LiesAt later pg to → is_same place.members to.members ≡ false
-      → (after' : ℕ) (wanted : Bool) (spans' : List Span) → wanted ≡ wants_clean is.history.code les (ended incs is.history) → after' ≡ epoch later
-      → spans' ≡ cond wanted (spans ++ record { first = first; last = epoch incs } ∷ []) spans → IsOnCourse later pg les after' spans' to
+      → (after' : ℕ) (wanted : Bool) (spans' : List Span) → wanted ≡ wants_clean is.history.code les (ended incs inc is.history) → after' ≡ epoch later
+      → spans' ≡ cond wanted (spans ++ record { first = first; last = inc.epoch - 1 } ∷ []) spans → IsOnCourse later pg les after' spans' to
   moved pg les first spans place to is lies differ after' wanted spans' wants starts are =
       let h : History AnyCode = is.history in
       let facts : PrimaryFacts = primary_facts incs h.current.acting_primary in
       let here : place.members ≡ h.current = grind (arith, history-current incs pg h is.history_is) in
       let apart : to.members ≢ h.current = λ e. true≢false (sym (eq-is_same place.members to.members (here ∙ sym e)) ∙ differ) in
-      let past = past_intervals-ends enough_of is_by_place [] h to.members facts apart in
+      let passed : ℕ = passed_over incs inc in
       let last = history-last incs pg h counts is.history_is in
-      let span : span_of (ended incs h) ≡ record { first = first; last = epoch incs } = λ i. record { first = sym is.first_is i; last = last i } in
-      let more = one-more span_of (wants_clean h.code les) (past_intervals enough_of is_by_place [] h) (ended incs h) in
+      let ends : h.first + last_place h + passed ≡ inc.epoch - 1 = omega (arith, last, later_epoch incs inc fine) in
+      let past = past_intervals-over enough_of is_by_place [] h passed to.members facts apart
+      ∙ ap (λ (e : ℕ). past_intervals enough_of is_by_place [] h ++ ending_at enough_of is_by_place [] h e facts ∷ []) ends in
+      let span : span_of (ended incs inc h) ≡ record { first = first; last = inc.epoch - 1 } = λ i. record { first = sym is.first_is i; last = inc.epoch - 1 } in
+      let more = one-more span_of (wants_clean h.code les) (past_intervals enough_of is_by_place [] h) (ended incs inc h) in
       record {
-        history = stepped h to.members facts;
+        history = grown_with incs inc h to.members;
         history_is = grind (arith, history-grows incs inc pg h counts fine is.history_is);
-        first_is = grind (arith, current_first-ends h to.members facts apart, epoch-snoc incs inc, next_epoch incs inc fine, last);
+        first_is = grind (arith, current_first-over h passed to.members facts apart, epoch-snoc incs inc, later_epoch incs inc fine, last);
         spans_are = grind (arith, cases_Bool wanted, past, more, span, is.spans_are);
         lies = lies;
       }
@@ -116,13 +119,12 @@ module _ (incs : List Incremental) (inc : Incremental) (after : OsdMap) (next : 
 
   -- whether clean epochs of its current interval can matter once that ends, by the pool that the next map has
   pub wants-are : (pg : PgId) (les first : ℕ) (spans : List Span) (place : GroupPlace) (way : IsOnCourse incs pg les first spans place) (made : PoolSpec) → pool later pg.pool ≡ Some made
-      → wants_clean way.history.code les (ended incs way.history) ≡ wants_by les (code_of made.kind) place.members first (epoch incs)
+      → wants_clean way.history.code les (ended incs inc way.history) ≡ wants_by les (code_of made.kind) place.members first (inc.epoch - 1)
   wants-are pg les first spans place way made pooled =
       let h : History AnyCode = way.history in
       let code : code_of made.kind ≡ h.code = code-later pg h made way.history_is pooled in
       let here : place.members ≡ h.current = grind (arith, history-current incs pg h way.history_is) in
-      let last = history-last incs pg h counts way.history_is in
-      λ i. wants_by les (sym code i) (sym here i) (sym way.first_is i) (last i)
+      λ i. wants_by les (sym code i) (sym here i) (sym way.first_is i) (inc.epoch - 1)
 
   -- its pool is there
   pub pool-later : (pg : PgId) (h : History AnyCode) → group_history incs pg ≡ Some h → pool later pg.pool ≡ None → ⊥

@@ -1,5 +1,5 @@
 -- Whatever entries follow, a log and the same log compacted give the same views.
-use Rattle.pgp_compact.proofs.Common.{AnyCode, Bool, Contains, Contains-here, Contains-later, Entry, EpochState, GroupLog, History, Incremental, Info, IsAfter, List, Member, None, PgId, Report, Some, Span, Verdict, [], ap, ap₂, are_checked, are_whole, arith, best, best_info, by_number, can_write, cases_Bool, compacted, counts_by, ends_at, enough_of, epoch, false, filter, filter-append, filter-contains, filter_map, filter_map-append, filter_map-from, fold, fold-append, fold_max-least, front-checked, group_history, group_in, group_with, has_member, has_number, heard, histories, history-last, holds, if◌then◌else◌, incs, incs_of, info_by, info_of, infos, infos_in, infos_of, inr, is_after, is_by_place, is_clean_from, is_counted, is_of, is_recorded, is_same_group, is_same_member, is_some, last_of_each_member, last_where, last_where-some, leader, length, les, list_any, list_any-append, log-in, map, map-agree, map-append, map_some, max, nat_le, nat_tests, needed_of, not, numbered, option_and_then, option_map, option_map_or, past, past_ending, past_ends, past_intervals, peer_state_by, peer_states, prefers, present_members, prior, refl, report_of, reported, reports_in, reports_of, scratch, state_at, sym, true, view_of, wants_clean, was_clean, whole_best, with_count, within, ℕ, ◌&&◌, ◌++◌, ◌||◌, ◌∙◌, ◌∷◌, ◌≡◌, ◌≤◌}
+use Rattle.pgp_compact.proofs.Common.{AnyCode, Bool, Contains, Contains-here, Contains-later, Entry, EpochState, GroupLog, History, Incremental, Info, IsAfter, List, Member, None, PgId, Report, Some, Span, Verdict, [], ap, ap₂, are_checked, are_whole, arith, best, best_info, by_number, can_write, cases_Bool, compacted, counts_by, ends_at, enough_of, epoch, false, filter, filter-append, filter-contains, filter_map, filter_map-append, filter_map-from, fold, fold-append, fold_max-least, front-checked, group_history, group_in, group_with, has_member, has_number, heard, histories, history-last, holds, if◌then◌else◌, incs, incs_of, info_by, info_of, infos, infos_in, infos_of, inr, is_after, is_by_place, is_clean_from, is_counted, is_of, is_recorded, is_same_group, is_same_member, is_some, last_of_each_member, last_where, last_where-some, leader, length, les, list_any, list_any-append, log-in, map, map-agree, map-append, map_some, max, nat_le, nat_tests, needed_of, not, epochs_ascend, option_and_then, option_map, option_map_or, past, past_ending, past_ends, past_intervals, peer_state_by, peer_states, prefers, present_members, prior, refl, report_of, reported, reports_in, reports_of, scratch, state_at, sym, true, view_of, wants_clean, was_clean, whole_best, with_count, within, ℕ, ◌&&◌, ◌++◌, ◌||◌, ◌∙◌, ◌∷◌, ◌≡◌, ◌≤◌}
 use Rattle.pgp_compact.proofs.IntervalLemmas.{CanMatter, history-goes_on, span_ending}
 use Rattle.pgp_compact.proofs.NeededLemmas.{NeedsLast, needed-any}
 use Rattle.pgp_compact.proofs.NumberLemmas.{entries_in, has}
@@ -114,7 +114,7 @@ module _ (never : NeverCountsAgain) (log more : List Entry) (pg : PgId) (after :
   before g there =
       let is = is_after log more pg g whole checked there (grind (arith, then')) in
       let hs = histories g more whole is in
-      let are_numbered = numbered (incs g) (front-checked (incs g) (incs_of more) hs.checked) in
+      let are_numbered = epochs_ascend (incs g) (front-checked (incs g) (incs_of more) hs.checked) in
       let same : epoch (incs g) ≡ epoch (incs_of log) = ap (λ (l : List Entry). epoch (incs_of l)) (log-in log pg g there) in
       record {
         counted = λ member stamp within counts. grind (arith, nat_tests, never g whole more member stamp is);

@@ -1,5 +1,5 @@
 -- Intervals stay as the history goes on, and lie one after another.
-use Rattle.pgp_compact.proofs.Common.{AnyCode, Bool, Contains, GroupLog, HasReached, History, Incremental, LieEndToEnd, List, Membership, Past, PgId, PrimaryFacts, Some, Span, [], along, ap, ap₂, are_checked, arith, cases_Bool, cases_lt, clean_spans, contains-any, contains-filter, contains-map, contains-push, current_span, current_state, ends_at, enough_of, filter, filter-contains, front-checked, get_or-range_with_len, get_or_append_left, get_or_default, get_or_push, group_history, history-grows, incs, inl, inr, is_by_place, is_in_span, last-checked, last_place, length-range_with_len, length_push, les, lie_end_to_end, list_any, list_any-append, map, map-contains, map_some, members_at-last_place, membership, nat_le, nat_tests, not, numbered, opening_of, opening_of-le, opening_of-opens, opening_of-stays, opens_at, or-true, past_ending, past_ends, past_intervals, past_of, past_spans, primary_facts, range_with_len, refl, span_of, state_at, stepped, subst, suc, sym, then_with, true, wants_clean, zero, ℕ, ◌&&◌, ◌++◌, ◌+◌, ◌<◌, ◌||◌, ◌∙◌, ◌∷◌, ◌≡◌, ◌≤◌, ◌⊎◌, range-contains}
+use Rattle.pgp_compact.proofs.Common.{AnyCode, Bool, Contains, GroupLog, HasReached, History, Incremental, LieEndToEnd, List, Membership, Past, PgId, PrimaryFacts, Some, Span, [], along, ap, ap₂, are_checked, arith, cases_Bool, cases_lt, clean_spans, contains-any, contains-filter, contains-map, contains-push, current_span, current_state, ends_at, enough_of, filter, filter-contains, front-checked, get_or-range_with_len, get_or_append_left, get_or_default, get_or_push, group_history, grown, grown-more, grown_with, history-grows, incs, inl, inr, is_by_place, is_in_span, last-checked, last_place, length-range_with_len, length_push, les, lie_end_to_end, list_any, list_any-append, map, map-contains, map_some, members_at-last_place, membership, nat_le, nat_tests, not, epochs_ascend, opening_of, opening_of-le, opening_of-opens, opening_of-stays, opens_at, or-true, passed_over, past_ending, past_ends, past_intervals, past_of, past_spans, primary_facts, range_with_len, refl, span_of, state_at, stepped, subst, suc, sym, then_with, true, wants_clean, zero, ℕ, ◌&&◌, ◌++◌, ◌+◌, ◌<◌, ◌||◌, ◌∙◌, ◌∷◌, ◌≡◌, ◌≤◌, ◌⊎◌, range-contains}
 use Rattle.pgp_compact.proofs.SpanLemmas.{LieApart, apart-lower}
 
 -- ---- a history that goes on
@@ -19,8 +19,8 @@ states-stay : (h : History AnyCode) (members : Membership) (facts : PrimaryFacts
 states-stay h members facts place before =
     get_or_append_left h.lived _ _ place before ∙ get_or_default h.lived place (current_state (stepped h members facts)) (current_state h) before
 
-goes-further : (h now : History AnyCode) (members : Membership) (facts : PrimaryFacts) → GoesOn h now → GoesOn h (stepped now members facts)
-goes-further h now members facts on = record {
+steps-further : (h now : History AnyCode) (members : Membership) (facts : PrimaryFacts) → GoesOn h now → GoesOn h (stepped now members facts)
+steps-further h now members facts on = record {
   code = on.code;
   first = on.first;
   longer = omega (arith, on.longer, length_push now.lived (record { members = now.current; facts = facts }));
@@ -28,16 +28,23 @@ goes-further h now members facts on = record {
   states = λ place before. states-stay now members facts place (omega (arith, before, on.longer)) ∙ on.states place before;
 }
 
+-- the epochs that are passed over are steps too
+goes-further : (h now : History AnyCode) (passed : ℕ) (members : Membership) (facts : PrimaryFacts) → GoesOn h now → GoesOn h (grown now passed members facts)
+goes-further h now zero members facts on = steps-further h now members facts on
+goes-further h now (suc passed) members facts on =
+    subst (GoesOn h) (sym (grown-more now members facts passed))
+    (goes-further h (stepped now now.current facts) passed members facts (steps-further h now now.current facts on))
+
 pub history-goes_on : (pg : PgId) (incs later : List Incremental) (h after : History AnyCode) → are_checked (incs ++ later) ≡ true
     → group_history incs pg ≡ Some h → group_history (incs ++ later) pg ≡ Some after → GoesOn h after
 history-goes_on pg incs later h after checked is then' =
     along pg (λ _ now. GoesOn h now)
     (λ incs inc now next checked is then' on.
     let facts : PrimaryFacts = primary_facts incs now.current.acting_primary in
-    let before = numbered incs (front-checked incs (inc ∷ []) checked) in
+    let before = epochs_ascend incs (front-checked incs (inc ∷ []) checked) in
     let grows = history-grows incs inc pg now before (last-checked incs inc checked) is in
-    let m = map_some (λ members. stepped now members facts) (membership (then_with incs inc) pg) next (sym grows ∙ then') in
-    subst (GoesOn h) m.2 (goes-further h now m.0 facts on))
+    let m = map_some (grown_with incs inc now) (membership (then_with incs inc) pg) next (sym grows ∙ then') in
+    subst (GoesOn h) m.2 (goes-further h now (passed_over incs inc) m.0 facts on))
     later incs h after checked is then'
     (record { code = refl; first = refl; longer = omega arith; opens = λ place within. refl; states = λ place before. refl })
 

@@ -1,5 +1,5 @@
 -- A compacted log is legal, and takes what the log takes.
-use Rattle.pgp_compact.proofs.Common.{AnyCode, Bool, Contains-nil, Entry, History, Incremental, List, Member, None, Option, PgId, Some, [], ap, append-nil, append_assoc, are_checked, arith, cases_Bool, compacted, contains-push, entry_fault, epoch, epoch-inc, epoch-other, false, faultless-inc, filter_map-append, fits, fits-faultless, front-checked, front-legal, group_history, group_in, group_with, has_group-grows, history_there, inc_of, incs-other, incs_of, inl, inr, is_close, is_closed, is_legal, is_needed, last-checked, legal-induction, legal-last, legal-snoc, length, length-append, list_any-append, nat_tests, needed_of, next_epoch, nothing_ahead, option_map, refl, report_fault, same-self, same_Some, some_is, sym, then_with, true, true≢false, ℕ, ◌++◌, ◌<◌, ◌∙◌, ◌∷◌, ◌≡◌, ◌≢◌, ◌≤◌}
+use Rattle.pgp_compact.proofs.Common.{AnyCode, Bool, Contains-nil, Entry, History, Incremental, List, Member, None, Option, PgId, Some, [], ap, append-nil, append_assoc, are_checked, arith, cases_Bool, compacted, contains-push, entry_fault, epoch, epoch-inc, epoch-other, false, faultless-inc, filter_map-append, fits, fits-faultless, front-checked, front-legal, group_history, group_in, group_with, has_group-grows, history_there, inc_of, incs-other, incs_of, inl, inr, is_close, is_closed, is_legal, is_needed, last-checked, legal-induction, legal-last, legal-snoc, length, length-append, list_any-append, nat_tests, needed_of, later_epoch, nothing_ahead, option_map, refl, report_fault, same-self, same_Some, some_is, sym, then_with, true, true≢false, ℕ, ◌++◌, ◌<◌, ◌∙◌, ◌∷◌, ◌≡◌, ◌≢◌, ◌≤◌}
 use Rattle.pgp_compact.proofs.GoneOnLemmas.{IsSent}
 use Rattle.pgp_compact.proofs.NeededLemmas.{needed-any, needed-each, needed-length}
 use Rattle.pgp_compact.proofs.PartLemmas.{incs-gone_on}
@@ -69,7 +69,7 @@ stamp-come log pg member stamp bad fine = grind (arith, nat_tests)
 pub legal-sent : (log : List Entry) → is_legal log ≡ true → IsSent log
 legal-sent = legal-induction IsSent (λ x there. absurd (Contains-nil x there)) (λ log new fit sent x there.
     let rises : epoch (incs_of log) ≤ epoch (incs_of (log ++ new ∷ [])) =
-    grind (arith, next_epoch, faultless-inc, fits-faultless, epoch-inc, epoch-other) in
+    grind (arith, later_epoch, faultless-inc, fits-faultless, epoch-inc, epoch-other) in
     elim (contains-push log new x there) [
       | inl old ↦ let was = sent x old in grind (arith, was.info, was.report)
       | inr same ↦ grind (arith, same_Some, stamp-come, fits-faultless log x, nothing_ahead log, same-self)

@@ -1,5 +1,5 @@
 -- What the whole log says of a group, and which entries are left of a log that is walked from its end.
-use Rattle.pgp_compact.proofs.Common.{AreLastCleans, Contains, Contains-nil, Course, Entry, GroupLog, GroupPlace, HasReached, HasReadFront, HasReport, HashMap, Incremental, Info, IsCourse, IsMapOf, IsNext, IsPresent, List, None, Opening, Option, OsdMap, PgId, Report, Says, Some, Standing, Whole, [], ap, arith, checked-more, contains-filter, contains-filter_map, current_first, drop, drop-cons, epoch, faultless-inc, fits-faultless, front-legal, get_or, group_in, group_with, history-last, inc_of, incs-other, incs_of, info_of, infos_of, is_legal, is_same_group, legal-checked, legal-counts, legal-last, length, les, log-in, map, map_fault, opening_in, option_and_then, option_map, past_spans, refl, report_of, reports_of, same-self, same_Some, standing_at, told_opening, started_by, suc, then_with, true, within, ℕ, ◌++◌, ◌+◌, ◌-◌, ◌<◌, ◌∙◌, ◌∷◌, ◌≡◌, ◌≤◌}
+use Rattle.pgp_compact.proofs.Common.{AreLastCleans, Contains, Contains-nil, Course, Entry, GroupLog, GroupPlace, HasReached, HasReadFront, HasReport, HashMap, Incremental, Info, IsCourse, IsMapOf, IsNext, IsPresent, List, None, Opening, Option, OsdMap, PgId, Report, Says, Some, Standing, Whole, [], ap, arith, checked-more, contains-filter, contains-filter_map, current_first, drop, drop-cons, epoch, faultless-inc, fits-faultless, front-legal, get_or, group_in, group_with, history-last, inc_of, incs-other, incs_of, info_of, infos_of, is_legal, is_same_group, legal-checked, legal-ascends, legal-last, length, les, log-in, map, map_fault, opening_in, option_and_then, option_map, past_spans, refl, report_of, reports_of, same-self, same_Some, standing_at, told_opening, started_by, suc, then_with, true, within, ℕ, ◌++◌, ◌+◌, ◌-◌, ◌<◌, ◌∙◌, ◌∷◌, ◌≡◌, ◌≤◌}
 use Rattle.pgp_compact.proofs.LegalLemmas.{legal-sent}
 use Rattle.pgp_ids.specs.declared.entry.Entry.TheVariants as entry
 
@@ -11,7 +11,7 @@ pub stands : (log : List Entry) (course : Course) (clean : ℕ) (opening : Optio
 stands log course clean opening legal is told_opening known place some opens =
     let u = is.there place some in
     let g : GroupLog = group_with log course.pg u.history in
-    let ends = history-last (incs_of log) course.pg u.history (legal-counts log legal) u.history_is in
+    let ends = history-last (incs_of log) course.pg u.history (legal-ascends log legal) u.history_is in
     let spans : course.spans.items ≡ past_spans u.history (les g) = u.spans_are ∙ ap (past_spans u.history) told_opening in
     let o : opening ≡ opening_in g clean = opens g u.first_is spans (omega (arith, ends, known)) in
     rw u.history_is (λ i. Some (record { first = u.first_is i; les = told_opening i; opening = o i }))

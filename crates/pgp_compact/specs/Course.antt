@@ -1,6 +1,6 @@
 -- What is kept of a group as one map follows another: where it lies, when its current interval began, and in which of its past
 -- intervals clean epochs can matter (this project's own choice).
-use Rattle.std.specs.Prelude.{◌≡◌, ℕ, List, [], Bool, ◌||◌, true, false, Some, None}
+use Rattle.std.specs.Prelude.{◌≡◌, ℕ, ◌-◌, List, [], Bool, ◌||◌, true, false, Some, None}
 use Rattle.std.specs.List.{list_any}
 use Rattle.pgp_code.specs.AnyCode.{enough_of, is_by_place}
 use Rattle.pgp_code.specs.declared.any.AnyCode.{AnyCode}
@@ -8,7 +8,7 @@ use Rattle.pgp_ids.specs.declared.incremental.Incremental.{Incremental}
 use Rattle.pgp_ids.specs.declared.past.Past.{Past}
 use Rattle.pgp_ids.specs.declared.pg_id.PgId.{PgId}
 use Rattle.pgp_interval.specs.History.{History}
-use Rattle.pgp_interval.specs.Runs.{current_ending, current_first}
+use Rattle.pgp_interval.specs.Runs.{current_first, ending_at}
 use Rattle.pgp_map.specs.Checked.{are_checked}
 use Rattle.pgp_map.specs.MapFault.{then_with}
 use Rattle.pgp_map.specs.MapOf.{IsMapOf}
@@ -59,9 +59,9 @@ pub record IsCourse (incs : List Incremental) (course : Course) : Type 0 where
   pub unbegun : course.place ≡ None → course.spans.items ≡ []
   pub there : (place : GroupPlace) → course.place ≡ Some place → IsOnCourse incs course.pg course.les course.first course.spans.items place
 
--- the group's current interval as a past one, where the next map ends it
-abbrev pub ended : List Incremental → History AnyCode → Past
-ended incs h = current_ending enough_of is_by_place [] h (primary_facts incs h.current.acting_primary)
+-- the group's current interval as a past one, where the next incremental ends it
+abbrev pub ended : List Incremental → Incremental → History AnyCode → Past
+ended incs inc h = ending_at enough_of is_by_place [] h (inc.epoch - 1) (primary_facts incs h.current.acting_primary)
 
 -- the incremental comes next, and this is the map after it
 pub record IsNext (incs : List Incremental) (inc : Incremental) (after : OsdMap) : Type 0 where

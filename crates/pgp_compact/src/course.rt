@@ -98,7 +98,7 @@ impl Course {
         self.leave(before, after, next)
     }
 
-    /// The current interval ends with the map before, and another begins, in which the group lies there. After an `Err` the value must
+    /// The current interval ends just before the map, and another begins, in which the group lies there. After an `Err` the value must
     /// not be used again.
     fn leave(
         &mut self,
@@ -115,7 +115,7 @@ impl Course {
         if self.wants_clean(before, after) {
             self.spans.push(Span {
                 first: self.first,
-                last: before.epoch,
+                last: after.epoch().before(),
             })?;
         }
         self.first = after.epoch();
@@ -123,12 +123,12 @@ impl Course {
         Ok(())
     }
 
-    /// Whether clean epochs of the current interval can matter where it ends with the map before.
+    /// Whether clean epochs of the current interval can matter where it ends just before the map.
     fn wants_clean(&self, before: &MapBefore, after: &OsdMap) -> bool
         ensures { (incs : List AnyIncremental) (inc : AnyIncremental) (place : AnyPlace) → IsNext incs inc after.now
             → IsMapBefore incs inc before.now → self.now.place ≡ Some place
             → (way : IsOnCourse incs self.now.pg self.now.les self.now.first self.now.spans.items place)
-            → result ≡ wants_clean way.history.code self.now.les (ended incs way.history) }
+            → result ≡ wants_clean way.history.code self.now.les (ended incs inc way.history) }
     {
         let Some(place) = &self.place else {
             return true;
@@ -141,7 +141,7 @@ impl Course {
         can_matter(
             can,
             is_recorded(facts, self.first),
-            self.les <= before.epoch,
+            self.les < after.epoch(),
         )
     }
 

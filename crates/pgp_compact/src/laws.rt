@@ -42,9 +42,9 @@ pub fn every_answer_is_the_same()
     pgp_log::laws::legal_logs_are_checked_and_short();
 }
 
-/// What is said of why a group doesn't serve, and of what would bring it back, is the same in every field by the log and by the
+/// What is said of why a group doesn't serve, and of what would end its waiting, is the same in every field by the log and by the
 /// compacted one, now and after whatever entries follow, of which each incremental was checked when it came: whom it has heard, the
-/// intervals that block it, with the last clean epoch of each, the smallest sets of devices that bring it back, the last interval in
+/// intervals that block it, with the last clean epoch of each, the smallest sets of devices that are enough, the last interval in
 /// which it was clean, the copies that may be followed, what its acting set lacks, and the writes that the best copy's log lacks. So is
 /// what it costs to boot some devices and to declare others lost.
 pub fn every_reason_is_the_same()

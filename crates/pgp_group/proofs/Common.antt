@@ -24,7 +24,7 @@ pub use Rattle.pgp_code.specs.declared.any.AnyCode.{AnyCode}
 pub use Rattle.pgp_group.specs.DeviceFacts.{AreOfMap, GivesEach, HasEachMember, allows, has_noted, renoted, renoted_all, status_noted, up_of}
 pub use Rattle.pgp_group.specs.Entries.{inc_of, incs_of, infos_of, report_of, reports_of}
 pub use Rattle.pgp_group.specs.Parts.{AreHeard, IsBestCopy}
-pub use Rattle.pgp_group.specs.GroupHistory.{AreNumbered, group_history, history_of, made_at, makes, primary_facts, state_at_epoch, state_with, states_from}
+pub use Rattle.pgp_group.specs.GroupHistory.{EpochsAscend, group_history, grown_with, history_of, made_at, makes, passed_over, primary_facts, state_at_epoch, state_with, states_from}
 pub use Rattle.pgp_group.specs.GroupLog.{GroupLog, cleans, group_in, group_with, incs, infos, reports}
 pub use Rattle.pgp_group.specs.GroupOf.{IsGroupOf, IsSilent, Keeps}
 pub use Rattle.pgp_group.specs.Heard.{IsLastOfMember, counted_infos, has_member, heard, is_counted, last_of_each_member, les, reported}
@@ -73,10 +73,10 @@ pub use Rattle.pgp_info.specs.Preference.{IsPreference, newest_first, oldest_fir
 pub use Rattle.pgp_info.specs.declared.preference.Preference.{Preference}
 pub use Rattle.pgp_interval.proofs.CleanLemmas.{past_intervals-more, past_intervals-same}
 pub use Rattle.pgp_interval.proofs.Same.{eq-is_same, is_same-eq}
-pub use Rattle.pgp_interval.proofs.StepLemmas.{current_first-continues, current_first-ends, past_intervals-continues, past_intervals-ends}
-pub use Rattle.pgp_interval.specs.History.{History, begun, last_place, stepped}
+pub use Rattle.pgp_interval.proofs.GrownLemmas.{current_first-goes_on, current_first-over, last_place-grown, past_intervals-goes_on, past_intervals-over}
+pub use Rattle.pgp_interval.specs.History.{History, begun, grown, last_place}
 pub use Rattle.pgp_interval.specs.IntervalsOf.{IsIntervalsOf, Running}
-pub use Rattle.pgp_interval.specs.Runs.{current_ending, current_first, past_intervals}
+pub use Rattle.pgp_interval.specs.Runs.{current_first, ending_at, past_intervals}
 pub use Rattle.pgp_interval.specs.SameMembers.{is_same}
 pub use Rattle.pgp_lists.proofs.Bools.{or_assoc}
 pub use Rattle.pgp_lists.proofs.Last.{last_found, last_where-append, last_where-found, last_where-some}

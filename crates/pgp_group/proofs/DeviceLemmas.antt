@@ -1,7 +1,7 @@
 -- What one more incremental does to what is known of a device.
 use Rattle.pgp_group.proofs.Common.{◌≡◌, ℕ, ◌≤◌, List, ◌++◌, None, Bool, true, false, nat_eq, nat_lt, ap, sym, ◌∙◌, inl, inr, arith, list_any, cases_Bool, eqb-true, nat_tests, DeviceEpoch, Incremental, last_found, last_where-append, last_where-some, flat_map-push, if_none, none_is, some_is, taken-induction, are_checked, is_faultless, boots, is_up, up_from, lost_at, last_epoch_of, greatest_epoch, last_where, epoch, then_with, has_already_up}
 use Rattle.pgp_map.specs.MapFault.{map_fault}
-use Rattle.pgp_group.proofs.GrowthLemmas.{epoch-snoc, next_epoch}
+use Rattle.pgp_group.proofs.GrowthLemmas.{epoch-snoc, later_epoch}
 use Rattle.pgp_group.proofs.LaterLemmas.{up_from-snoc}
 use Rattle.pgp_group.proofs.Lists.{last_where-none, left_new, none-narrower, last_or-any}
 
@@ -26,7 +26,7 @@ up_from-within osd =
     (λ incs inc checked fine within. step incs inc (none_is (map_fault incs inc) fine) within)
   where
     step : (incs : List Incremental) (inc : Incremental) → map_fault incs inc ≡ None → up_from incs osd ≤ epoch incs → up_from (then_with incs inc) osd ≤ epoch (then_with incs inc)
-    step incs inc fine within = grind (arith, cases_Bool (boots osd inc), up_from-snoc incs inc osd, epoch-snoc incs inc, next_epoch incs inc fine)
+    step incs inc fine within = grind (arith, cases_Bool (boots osd inc), up_from-snoc incs inc osd, epoch-snoc incs inc, later_epoch incs inc fine)
 
 -- ---- epochs that are told of a device
 

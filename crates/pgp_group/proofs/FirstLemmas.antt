@@ -1,7 +1,7 @@
 -- How the current interval moves with each incremental: it goes on, or it ends and the next one opens.
-use Rattle.pgp_group.proofs.Common.{◌≡◌, ◌≢◌, ◌⊎◌, ℕ, ◌+◌, ◌≤◌, List, [], ◌∷◌, ◌++◌, Some, true, refl, sym, ◌∙◌, subst, inl, inr, arith, cases_Bool, true≢false, same_Some, enough_of, is_by_place, AnyCode, PrimaryFacts, Incremental, Membership, Past, PgId, History, last_place, stepped, current_first, current_ending, past_intervals, is_same, is_same-eq, eq-is_same, some_is, are_checked, is_faultless, epoch, then_with, AreNumbered, primary_facts, group_history, taken-along, taken-more, current_first-continues, current_first-ends, past_intervals-continues, past_intervals-ends, front-checked, last-checked}
+use Rattle.pgp_group.proofs.Common.{◌≡◌, ◌≢◌, ◌⊎◌, ℕ, ◌+◌, ◌-◌, ◌≤◌, List, [], ◌∷◌, ◌++◌, Some, true, refl, ap, sym, ◌∙◌, subst, inl, inr, arith, cases_Bool, true≢false, same_Some, enough_of, is_by_place, AnyCode, PrimaryFacts, Incremental, Membership, Past, PgId, History, last_place, grown, current_first, ending_at, past_intervals, is_same, is_same-eq, eq-is_same, some_is, are_checked, is_faultless, epoch, then_with, EpochsAscend, grown_with, passed_over, primary_facts, group_history, taken-along, taken-more, current_first-goes_on, current_first-over, past_intervals-goes_on, past_intervals-over, front-checked, last-checked}
 use Rattle.pgp_interval.proofs.Openings.{opening_of-le}
-use Rattle.pgp_group.proofs.GrowthLemmas.{numbered, has_group-grows, history-grows, history-last, next_epoch}
+use Rattle.pgp_group.proofs.GrowthLemmas.{epochs_ascend, has_group-grows, history-grows, history-last, later_epoch}
 use Rattle.pgp_group.proofs.ViewLemmas.{history_there}
 
 -- the past intervals by the code of the pool, where the group was clean in these epochs
@@ -18,29 +18,35 @@ pub record GoesOn (h after : History AnyCode) : Type 0 where
 pub record Ends (epoch : ℕ) (facts : PrimaryFacts) (h after : History AnyCode) : Type 0 where
   pub moved : after.current ≢ h.current
   pub first : current_first after ≡ epoch
-  pub past : (cleans : List ℕ) → past_of cleans after ≡ past_of cleans h ++ current_ending enough_of is_by_place cleans h facts ∷ []
+  pub past : (cleans : List ℕ) → past_of cleans after ≡ past_of cleans h ++ ending_at enough_of is_by_place cleans h (epoch - 1) facts ∷ []
 
-pub step-moves : (h : History AnyCode) (members : Membership) (facts : PrimaryFacts) → GoesOn h (stepped h members facts) ⊎ Ends (h.first + last_place h + 1) facts h (stepped h members facts)
-step-moves h members facts = elim (cases_Bool (is_same members h.current)) [
-  | inl same ↦ inl (subst (λ (m : Membership). GoesOn h (stepped h m facts)) (sym (is_same-eq members h.current same)) (record {
+pub step-moves : (h : History AnyCode) (passed : ℕ) (members : Membership) (facts : PrimaryFacts) → GoesOn h (grown h passed members facts) ⊎ Ends (h.first + last_place h + passed + 1) facts h (grown h passed members facts)
+step-moves h passed members facts = elim (cases_Bool (is_same members h.current)) [
+  | inl same ↦ inl (subst (λ (m : Membership). GoesOn h (grown h passed m facts)) (sym (is_same-eq members h.current same)) (record {
     current = refl;
-    first = current_first-continues h facts;
-    past = λ cleans. past_intervals-continues enough_of is_by_place cleans h facts;
+    first = current_first-goes_on h passed facts;
+    past = λ cleans. past_intervals-goes_on enough_of is_by_place cleans h passed facts;
   }))
   | inr differ ↦
       let moved : members ≢ h.current = λ same. true≢false (sym (eq-is_same members h.current same) ∙ differ) in
-      inr (record { moved = moved; first = current_first-ends h members facts moved; past = λ cleans. past_intervals-ends enough_of is_by_place cleans h members facts moved })
+      let last : h.first + last_place h + passed ≡ h.first + last_place h + passed + 1 - 1 = omega arith in
+      inr (record {
+        moved = moved;
+        first = current_first-over h passed members facts moved;
+        past = λ cleans. past_intervals-over enough_of is_by_place cleans h passed members facts moved
+            ∙ ap (λ (e : ℕ). past_of cleans h ++ ending_at enough_of is_by_place cleans h e facts ∷ []) last;
+      })
 ]
 
 -- one more incremental without fault makes the new history of the old one
-pub record Grown (incs : List Incremental) (h after : History AnyCode) : Type 0 where
+pub record Grown (incs : List Incremental) (inc : Incremental) (h after : History AnyCode) : Type 0 where
   pub members : Membership
-  pub is : stepped h members (primary_facts incs h.current.acting_primary) ≡ after
+  pub is : grown_with incs inc h members ≡ after
 
-grown : (incs : List Incremental) (inc : Incremental) (pg : PgId) (h after : History AnyCode) → are_checked (then_with incs inc) ≡ true
-    → group_history incs pg ≡ Some h → group_history (then_with incs inc) pg ≡ Some after → Grown incs h after
-grown incs inc pg h after checked is then' =
-    grind (arith, history-grows incs inc pg h (numbered incs (front-checked incs (inc ∷ []) checked)) (last-checked incs inc checked) is)
+grows : (incs : List Incremental) (inc : Incremental) (pg : PgId) (h after : History AnyCode) → are_checked (then_with incs inc) ≡ true
+    → group_history incs pg ≡ Some h → group_history (then_with incs inc) pg ≡ Some after → Grown incs inc h after
+grows incs inc pg h after checked is then' =
+    grind (arith, history-grows incs inc pg h (epochs_ascend incs (front-checked incs (inc ∷ []) checked)) (last-checked incs inc checked) is)
 
 pub data Moves (incs : List Incremental) (inc : Incremental) (h after : History AnyCode) : Type 0 where
   on : after.code ≡ h.code → GoesOn h after → Moves incs inc h after
@@ -49,13 +55,14 @@ pub data Moves (incs : List Incremental) (inc : Incremental) (h after : History 
 pub moves : (incs : List Incremental) (inc : Incremental) (pg : PgId) (h after : History AnyCode) → are_checked (then_with incs inc) ≡ true
     → group_history incs pg ≡ Some h → group_history (then_with incs inc) pg ≡ Some after → Moves incs inc h after
 moves incs inc pg h after checked is then' =
-    let g = grown incs inc pg h after checked is then' in
+    let g = grows incs inc pg h after checked is then' in
     let facts : PrimaryFacts = primary_facts incs h.current.acting_primary in
-    let opens : h.first + last_place h + 1 ≡ inc.epoch =
-    omega (arith, history-last incs pg h (numbered incs (front-checked incs (inc ∷ []) checked)) is, next_epoch incs inc (last-checked incs inc checked)) in
-    subst (Moves incs inc h) g.is (elim (step-moves h g.members facts) [
+    let passed : ℕ = passed_over incs inc in
+    let opens : h.first + last_place h + passed + 1 ≡ inc.epoch =
+    omega (arith, history-last incs pg h (epochs_ascend incs (front-checked incs (inc ∷ []) checked)) is, later_epoch incs inc (last-checked incs inc checked)) in
+    subst (Moves incs inc h) g.is (elim (step-moves h passed g.members facts) [
       | inl goes ↦ on refl goes
-      | inr over ↦ ends refl (subst (λ (e : ℕ). Ends e facts h (stepped h g.members facts)) opens over)
+      | inr over ↦ ends refl (subst (λ (e : ℕ). Ends e facts h (grown h passed g.members facts)) opens over)
     ])
 
 pub first-goes_on : (incs : List Incremental) (inc : Incremental) (pg : PgId) (h after : History AnyCode) → are_checked (then_with incs inc) ≡ true
@@ -71,14 +78,14 @@ first-opens incs inc pg h after checked is then' differ =
 -- ---- along a list
 
 -- the current interval opens with the last epoch at most
-pub first-within : (incs : List Incremental) (pg : PgId) (h : History AnyCode) → AreNumbered incs → group_history incs pg ≡ Some h → current_first h ≤ epoch incs
+pub first-within : (incs : List Incremental) (pg : PgId) (h : History AnyCode) → EpochsAscend incs → group_history incs pg ≡ Some h → current_first h ≤ epoch incs
 first-within incs pg h counts is = omega (arith, opening_of-le h (last_place h), history-last incs pg h counts is)
 
 pub first-step : (incs : List Incremental) (inc : Incremental) (pg : PgId) (h after : History AnyCode) → are_checked (then_with incs inc) ≡ true
     → group_history incs pg ≡ Some h → group_history (then_with incs inc) pg ≡ Some after → current_first h ≤ current_first after
 first-step incs inc pg h after checked is then' =
-    let within = first-within incs pg h (numbered incs (front-checked incs (inc ∷ []) checked)) is in
-    let next = next_epoch incs inc (last-checked incs inc checked) in
+    let within = first-within incs pg h (epochs_ascend incs (front-checked incs (inc ∷ []) checked)) is in
+    let next = later_epoch incs inc (last-checked incs inc checked) in
     elim (moves incs inc pg h after checked is then') [ on code goes ↦ omega (arith, goes.first) | ends code over ↦ omega (arith, over.first) ]
 
 -- a group that is there stays

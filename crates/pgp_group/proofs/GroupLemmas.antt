@@ -1,12 +1,12 @@
 -- What a group keeps as its log grows.
-use Rattle.pgp_group.proofs.Common.{◌≡◌, ◌≢◌, ◌≤◌, ℕ, List, [], ◌∷◌, ◌++◌, Option, Some, None, true, false, ◌||◌, nat_eq, refl, ap, sym, ◌∙◌, subst, inl, inr, append-nil, map, filter, list_any, map-append, option_map, Result, Ok, Err, OnOk, enough_of, is_by_place, code_of, AnyCode, Entry, PrimaryFacts, Incremental, Membership, Past, PgId, PoolSpec, Info, Report, History, begun, stepped, Running, IsIntervalsOf, current_ending, past_intervals, past_intervals-more, past_intervals-continues, past_intervals-ends, epoch, map_fault, then_with, pool, has_group, is_same_group, pool_membership, membership, inc_of, report_of, incs_of, infos_of, reports_of, AreNumbered, made_at, primary_facts, GroupLog, cleans, group_with, infos, reports, Keeps, IsGroupOf, IsSilent, has_osd, was_member, KeepsInfos, TakesInfo, KeepsNames, KeepsPrior, KeepsReports, IsReportedBy, les, past, Group, Infos, NamedDevices, KeptPrior, Reports, arith, nat_tests}
+use Rattle.pgp_group.proofs.Common.{◌≡◌, ◌≢◌, ◌≤◌, ℕ, ◌+◌, ◌-◌, List, [], ◌∷◌, ◌++◌, Option, Some, None, true, false, ◌||◌, nat_eq, refl, ap, sym, ◌∙◌, subst, inl, inr, append-nil, map, filter, list_any, map-append, option_map, Result, Ok, Err, OnOk, enough_of, is_by_place, code_of, AnyCode, Entry, PrimaryFacts, Incremental, Membership, Past, PgId, PoolSpec, Info, Report, History, begun, grown, last_place, Running, IsIntervalsOf, ending_at, past_intervals, past_intervals-more, past_intervals-goes_on, past_intervals-over, epoch, map_fault, then_with, pool, has_group, is_same_group, pool_membership, membership, inc_of, report_of, incs_of, infos_of, reports_of, EpochsAscend, grown_with, passed_over, group_history, made_at, primary_facts, GroupLog, cleans, group_with, infos, reports, Keeps, IsGroupOf, IsSilent, has_osd, was_member, KeepsInfos, TakesInfo, KeepsNames, KeepsPrior, KeepsReports, IsReportedBy, les, past, Group, Infos, NamedDevices, KeptPrior, Reports, arith, nat_tests}
 use Rattle.pgp_ids.specs.declared.entry.Entry.TheVariants as entry
 use Rattle.pgp_ids.specs.declared.pool.PoolKind.{PoolKind}
 pub use Rattle.pgp_lists.proofs.Results.{on_err}
 use Rattle.std.specs.Result.{OnErr}
 use Rattle.pgp_group.specs.Entries.{info_of}
 use Rattle.pgp_group.proofs.FirstLemmas.{past_of, step-moves}
-use Rattle.pgp_group.proofs.GrowthLemmas.{history-begins, history-grows, next_epoch, numbered-more}
+use Rattle.pgp_group.proofs.GrowthLemmas.{history-begins, history-grows, later_epoch, epochs_ascend-more}
 use Rattle.pgp_group.proofs.InfosLemmas.{moves, KeepsInfos-on}
 use Rattle.pgp_group.proofs.LaterLemmas.{outlasts-same, outlasts-inc, les-later}
 use Rattle.pgp_group.proofs.Lists.{any-mapped, nothing_new, one_new, kept_new, left_new}
@@ -21,10 +21,10 @@ pub les-grows : (log : List Entry) (new : Entry) (pg : PgId) (h after : History 
 les-grows log new pg h after = les-later log (new ∷ []) pg
 
 -- the past intervals stay, and the current one may join them
-past-grows : (epochs : List ℕ) (h : History AnyCode) (members : Membership) (facts : PrimaryFacts) → (later : List Past) × (past_of epochs (stepped h members facts) ≡ past_of epochs h ++ later)
-past-grows epochs h members facts = elim (step-moves h members facts) [
+past-grows : (epochs : List ℕ) (h : History AnyCode) (passed : ℕ) (members : Membership) (facts : PrimaryFacts) → (later : List Past) × (past_of epochs (grown h passed members facts) ≡ past_of epochs h ++ later)
+past-grows epochs h passed members facts = elim (step-moves h passed members facts) [
   | inl goes ↦ ([], goes.past epochs ∙ sym (append-nil (past_of epochs h)))
-  | inr over ↦ (current_ending enough_of is_by_place epochs h facts ∷ [], over.past epochs)
+  | inr over ↦ (ending_at enough_of is_by_place epochs h (h.first + last_place h + passed + 1 - 1) facts ∷ [], over.past epochs)
 ]
 
 -- what an entry that brings no map leaves as it is: the intervals, and whom the group had to hear
@@ -46,7 +46,14 @@ intervals-same g after intervals told is = subst (λ (epochs : List ℕ). IsInte
 -- what a group has, after an entry that brings no map
 pub IsGroupOf-report : (log : List Entry) (new : Entry) (pg : PgId) (old group : Group) (is : IsGroupOf log pg old)
     → inc_of new ≡ None → Keeps (group_with (log ++ new ∷ []) pg is.history) group → IsGroupOf (log ++ new ∷ []) pg group
-IsGroupOf-report log new pg old group is none kept = search nothing_new
+IsGroupOf-report log new pg old group is none kept =
+    let same : incs_of (log ++ new ∷ []) ≡ incs_of log = nothing_new inc_of log new none in
+    record {
+      history = is.history;
+      history_is = ap (λ (l : List Incremental). group_history l pg) same ∙ is.history_is;
+      ascend = subst EpochsAscend (sym same) is.ascend;
+      keeps = kept;
+    }
 
 -- the same, where it brings no info of the group either
 pub IsGroupOf-other : (log : List Entry) (new : Entry) (pg : PgId) (old group : Group) (is : IsGroupOf log pg old) → inc_of new ≡ None
@@ -147,21 +154,21 @@ stood-told log info pg h same osd = search (cleans-told, past_intervals-more, an
 pub IsGroupOf-inc : (log : List Entry) (inc : Incremental) (pg : PgId) (old group : Group) (members : Membership) (is : IsGroupOf log pg old) → map_fault (incs_of log) inc ≡ None
     → membership (then_with (incs_of log) inc) pg ≡ Some members
     → group.pg ≡ old.pg → group.infos ≡ old.infos → group.reports ≡ old.reports → group.reckoned ≡ old.reckoned
-    → IsIntervalsOf enough_of is_by_place (stepped is.history members (primary_facts (incs_of log) is.history.current.acting_primary)) (cleans (group_with log pg is.history)) group.intervals
-    → KeepsNames (group_with (log ++ entry.Inc inc ∷ []) pg (stepped is.history members (primary_facts (incs_of log) is.history.current.acting_primary))) group.named
+    → IsIntervalsOf enough_of is_by_place (grown_with (incs_of log) inc is.history members) (cleans (group_with log pg is.history)) group.intervals
+    → KeepsNames (group_with (log ++ entry.Inc inc ∷ []) pg (grown_with (incs_of log) inc is.history members)) group.named
     → IsGroupOf (log ++ entry.Inc inc ∷ []) pg group
 IsGroupOf-inc log inc pg old group members is fine lies pg_is infos' reports' reckoned' intervals named' =
     let incs : incs_of (log ++ entry.Inc inc ∷ []) ≡ then_with (incs_of log) inc = one_new inc_of log (entry.Inc inc) inc refl in
-    let after : History AnyCode = stepped is.history members (primary_facts (incs_of log) is.history.current.acting_primary) in
+    let after : History AnyCode = grown_with (incs_of log) inc is.history members in
     let told = infos-same log (entry.Inc inc) pg refl in
     let on = outlasts-inc (group_with log pg is.history) (group_with (log ++ entry.Inc inc ∷ []) pg after) inc incs
-    (next_epoch (incs_of log) inc fine)
-    (moves (incs_of log) pg is.history members (primary_facts (incs_of log) is.history.current.acting_primary) is.numbered is.history_is) in
-    let grown = past-grows (cleans (group_with log pg is.history)) is.history members (primary_facts (incs_of log) is.history.current.acting_primary) in
+    (later_epoch (incs_of log) inc fine)
+    (moves (incs_of log) inc pg is.history members is.ascend (later_epoch (incs_of log) inc fine) is.history_is) in
+    let grows = past-grows (cleans (group_with log pg is.history)) is.history (passed_over (incs_of log) inc) members (primary_facts (incs_of log) is.history.current.acting_primary) in
     record {
       history = after;
-      history_is = grind (arith, history-grows (incs_of log) inc pg is.history is.numbered fine is.history_is);
-      numbered = subst AreNumbered (sym incs) (numbered-more (incs_of log) inc is.numbered fine);
+      history_is = grind (arith, history-grows (incs_of log) inc pg is.history is.ascend fine is.history_is);
+      ascend = subst EpochsAscend (sym incs) (epochs_ascend-more (incs_of log) inc is.ascend fine);
       keeps = record {
         pg_is = pg_is ∙ is.keeps.pg_is;
         intervals_are = intervals-same (group_with log pg is.history) (group_with (log ++ entry.Inc inc ∷ []) pg after) group.intervals told intervals;
@@ -174,27 +181,27 @@ IsGroupOf-inc log inc pg old group members is fine lies pg_is infos' reports' re
             (reports-same log (entry.Inc inc) pg refl) is.keeps.reports_are);
         named_are = named';
         prior_is = subst (KeepsPrior (group_with (log ++ entry.Inc inc ∷ []) pg after)) (sym reckoned')
-            (KeepsPrior-grown (group_with log pg is.history) (group_with (log ++ entry.Inc inc ∷ []) pg after) old.reckoned grown.0 refl
-            (past-same (group_with log pg after) (group_with (log ++ entry.Inc inc ∷ []) pg after) refl told ∙ grown.1) (les-grows log (entry.Inc inc) pg is.history after) is.keeps.prior_is);
+            (KeepsPrior-grown (group_with log pg is.history) (group_with (log ++ entry.Inc inc ∷ []) pg after) old.reckoned grows.0 refl
+            (past-same (group_with log pg after) (group_with (log ++ entry.Inc inc ∷ []) pg after) refl told ∙ grows.1) (les-grows log (entry.Inc inc) pg is.history after) is.keeps.prior_is);
       };
     }
 
 -- the interval goes on
-pub names-stay : (log : List Entry) (inc : Incremental) (pg : PgId) (h : History AnyCode) (facts : PrimaryFacts) (named : NamedDevices)
-    → KeepsNames (group_with log pg h) named → KeepsNames (group_with (log ++ entry.Inc inc ∷ []) pg (stepped h h.current facts)) named
-names-stay log inc pg h facts named is =
-    KeepsNames-same (group_with log pg h) (group_with (log ++ entry.Inc inc ∷ []) pg (stepped h h.current facts)) named named
-    (simp (infos-same, past_intervals-continues))
+pub names-stay : (log : List Entry) (inc : Incremental) (pg : PgId) (h : History AnyCode) (passed : ℕ) (facts : PrimaryFacts) (named : NamedDevices)
+    → KeepsNames (group_with log pg h) named → KeepsNames (group_with (log ++ entry.Inc inc ∷ []) pg (grown h passed h.current facts)) named
+names-stay log inc pg h passed facts named is =
+    KeepsNames-same (group_with log pg h) (group_with (log ++ entry.Inc inc ∷ []) pg (grown h passed h.current facts)) named named
+    (simp (infos-same, past_intervals-goes_on))
     (infos-same log (entry.Inc inc) pg refl) (reports-same log (entry.Inc inc) pg refl) refl is
 
 -- the interval ends
-pub names-end : (log : List Entry) (inc : Incremental) (pg : PgId) (h : History AnyCode) (members : Membership) (facts : PrimaryFacts) (old mid new : NamedDevices) → members ≢ h.current
+pub names-end : (log : List Entry) (inc : Incremental) (pg : PgId) (h : History AnyCode) (passed : ℕ) (members : Membership) (facts : PrimaryFacts) (old mid new : NamedDevices) → members ≢ h.current
     → ((osd : ℕ) → list_any (nat_eq osd) mid.osds.items ≡ (has_osd osd h.current.up || list_any (nat_eq osd) old.osds.items))
     → ((osd : ℕ) → list_any (nat_eq osd) new.osds.items ≡ (has_osd osd h.current.acting || list_any (nat_eq osd) mid.osds.items))
-    → KeepsNames (group_with log pg h) old → KeepsNames (group_with (log ++ entry.Inc inc ∷ []) pg (stepped h members facts)) new
-names-end log inc pg h members facts old mid new differ up acting is =
-    KeepsNames-ended (group_with log pg h) (group_with (log ++ entry.Inc inc ∷ []) pg (stepped h members facts)) old mid new (current_ending enough_of is_by_place (cleans (group_with log pg h)) h facts)
-    (simp (infos-same, past_intervals-ends)) (infos-same log (entry.Inc inc) pg refl) (reports-same log (entry.Inc inc) pg refl) up acting is
+    → KeepsNames (group_with log pg h) old → KeepsNames (group_with (log ++ entry.Inc inc ∷ []) pg (grown h passed members facts)) new
+names-end log inc pg h passed members facts old mid new differ up acting is =
+    KeepsNames-ended (group_with log pg h) (group_with (log ++ entry.Inc inc ∷ []) pg (grown h passed members facts)) old mid new (ending_at enough_of is_by_place (cleans (group_with log pg h)) h (h.first + last_place h + passed) facts)
+    (simp (infos-same, past_intervals-over)) (infos-same log (entry.Inc inc) pg refl) (reports-same log (entry.Inc inc) pg refl) up acting is
 
 -- ---- the first epoch
 
@@ -203,7 +210,7 @@ begun_as : (incs : List Incremental) (pg : PgId) (kind : PoolKind) (members : Me
 begun_as incs pg kind members None is lies = cc
 begun_as incs pg kind members (Some made) is lies = grind arith
 
-pub IsGroupOf-begun : (log : List Entry) (pg : PgId) (kind : PoolKind) (members : Membership) (group : Group) → AreNumbered (incs_of log) → has_group (incs_of log) pg ≡ true → made_at (incs_of log) pg.pool ≡ epoch (incs_of log) → IsSilent log pg
+pub IsGroupOf-begun : (log : List Entry) (pg : PgId) (kind : PoolKind) (members : Membership) (group : Group) → EpochsAscend (incs_of log) → has_group (incs_of log) pg ≡ true → made_at (incs_of log) pg.pool ≡ epoch (incs_of log) → IsSilent log pg
     → option_map (λ made. made.kind) (pool (incs_of log) pg.pool) ≡ Some kind → membership (incs_of log) pg ≡ Some members
     → group.pg ≡ pg → ((g : GroupLog) → infos g ≡ [] → KeepsInfos g group.infos) → ((g : GroupLog) → reports g ≡ [] → KeepsReports g group.reports)
     → IsIntervalsOf enough_of is_by_place (begun (code_of kind) (epoch (incs_of log)) members) [] group.intervals → group.named.osds.items ≡ []
@@ -212,7 +219,7 @@ pub IsGroupOf-begun : (log : List Entry) (pg : PgId) (kind : PoolKind) (members 
 IsGroupOf-begun log pg kind members group counts there now silent is lies pg_is none nothing intervals nobody unasked = record {
   history = begun (code_of kind) (epoch (incs_of log)) members;
   history_is = history-begins (incs_of log) pg now there ∙ begun_as (incs_of log) pg kind members (pool (incs_of log) pg.pool) is lies;
-  numbered = counts;
+  ascend = counts;
   keeps = record {
     pg_is = pg_is;
     intervals_are = grind arith;
@@ -226,7 +233,7 @@ IsGroupOf-begun log pg kind members group counts there now silent is lies pg_is 
 -- the group stands for the log, where it keeps what the other one does
 pub IsGroupOf-kept : (log : List Entry) (pg : PgId) (old group : Group) (is : IsGroupOf log pg old)
     → Keeps (group_with log pg is.history) group → IsGroupOf log pg group
-IsGroupOf-kept log pg old group is kept = record { history = is.history; history_is = is.history_is; numbered = is.numbered; keeps = kept }
+IsGroupOf-kept log pg old group is kept = record { history = is.history; history_is = is.history_is; ascend = is.ascend; keeps = kept }
 
 -- so it is also where its parts are kept elsewhere, as after an error
 pub same_after_error : {T E : Type 0} (r : Result T E) (old group : Group) → group.pg ≡ old.pg → group.intervals ≡ old.intervals → ((g : GroupLog) → KeepsInfos g old.infos → KeepsInfos g group.infos) → ((g : GroupLog) → KeepsReports g old.reports → KeepsReports g group.reports) → group.named.osds.items ≡ old.named.osds.items → group.reckoned ≡ old.reckoned

@@ -1,49 +1,101 @@
--- How a list of incrementals is numbered, and how the history of a group grows by an incremental that isn't refused.
-use Rattle.pgp_group.proofs.Common.{◌≡◌, ℕ, suc, ◌+◌, ◌<◌, ◌≤◌, List, [], ◌∷◌, ◌++◌, Option, Some, None, is_some, Bool, true, false, nat_eq, nat_lt, nat_le, length, map, refl, ap, ap₂, sym, ◌∙◌, subst, arith, drop, if◌then◌else◌, Contains, flat_map, last_or, list_any, range_with_len, slice_index_or, option_map, option_map_or, eqb-true, nat_tests, length_push, map_push, filter_map-append, AnyCode, code_of, Incremental, PgId, PoolSizes, PoolSpec, History, begun, stepped, are_checked, last_where, epoch, up_to, map_fault, then_with, has_epoch_gap, pool, with_sizes, has_group, pool_membership, membership, flat_map-push, filter-contains, makes, made_at, AreNumbered, primary_facts, state_with, state_at_epoch, states_from, history_of, group_history, taken-induction, none_is, front-checked, last-checked}
+-- How a list of incrementals is epochs_ascend, and how the history of a group grows by an incremental that isn't refused.
+use Rattle.pgp_group.proofs.Common.{◌≡◌, ℕ, suc, ◌+◌, ◌<◌, ◌≤◌, List, [], ◌∷◌, ◌++◌, Option, Some, None, is_some, Bool, true, false, nat_eq, nat_lt, nat_le, refl, ap, ap₂, sym, ◌∙◌, subst, arith, if◌then◌else◌, Contains, flat_map, last_or, list_any, range_with_len, option_map, option_map_or, eqb-true, nat_tests, filter_map-append, AnyCode, code_of, Incremental, PgId, PoolSizes, PoolSpec, History, begun, are_checked, last_where, epoch, up_to, map_fault, then_with, has_epoch_gap, pool, with_sizes, has_group, pool_membership, membership, flat_map-push, filter-contains, makes, made_at, EpochsAscend, grown_with, passed_over, state_with, state_at_epoch, states_from, history_of, group_history, taken-induction, none_is, zero, ◌-◌, All, AllPairs-nil, length, is_faultless, All-nil, All-head, All-tail, All-weaker, AllPairs-first, AllPairs-rest, EpochState, filter_map, get_or, map, map_push, length_push, contains-append, Contains-here, inl, inr, All-contains}
+use Rattle.std.specs.Prelude.{replicate}
+use Rattle.std.proofs.lemmas.List.Elements.{All-cons}
+use Rattle.std.proofs.lemmas.List.Quantifiers.{all_pairs_push}
+use Rattle.pgp_lists.proofs.Ranges.{range_with_len-suc}
 use Rattle.pgp_map.proofs.FaultLemmas.{no_fault}
 pub use Rattle.pgp_map.proofs.MapLemmas.{epoch-push as epoch-snoc}
-use Rattle.pgp_lists.proofs.Ranges.{range_with_len-suc}
 use Rattle.pgp_group.proofs.HistoryLemmas.{maker_of, history_if, history-length}
 use Rattle.pgp_group.proofs.Lists.{none-narrower, last_where-passes, last_where-none, filter_map-agree}
 
 -- ---- an incremental that isn't refused
 
-pub next_epoch : (incs : List Incremental) (inc : Incremental) → map_fault incs inc ≡ None → inc.epoch ≡ epoch incs + 1
-next_epoch incs inc fine = let gap : has_epoch_gap incs inc ≡ false = (no_fault incs inc fine).gap in grind (arith, nat_tests)
+pub later_epoch : (incs : List Incremental) (inc : Incremental) → map_fault incs inc ≡ None → epoch incs < inc.epoch
+later_epoch incs inc fine = let gap : has_epoch_gap incs inc ≡ false = (no_fault incs inc fine).gap in grind (arith, nat_tests)
 
--- ---- the epochs of a list count 1, 2, and so on
+-- it changes the last map
+pub linked : (incs : List Incremental) (inc : Incremental) → map_fault incs inc ≡ None → (inc.after ≡ epoch incs) × (inc.after < inc.epoch)
+linked incs inc fine =
+    let gap : has_epoch_gap incs inc ≡ false = (no_fault incs inc fine).gap in
+    let at : inc.after ≡ epoch incs = grind (arith, nat_tests) in
+    (at, omega (arith, at, later_epoch incs inc fine))
 
-last_epoch : (incs : List Incremental) (o : Option Incremental) (a : ℕ) → option_map_or (λ inc. inc.epoch) o 0 ≡ a → map (λ inc. inc.epoch) incs ≡ range_with_len (a + 1) (length incs) → option_map_or (λ inc. inc.epoch) (last_or o incs) 0 ≡ a + length incs
-last_epoch [] o a before counts = before ∙ omega arith
-last_epoch (inc ∷ incs) o a before counts =
-    let first : inc.epoch ≡ a + 1 = ap (λ l. slice_index_or l 0 0) counts in
-    let rest : map (λ i. i.epoch) incs ≡ range_with_len (a + 1 + 1) (length incs) = ap (λ l. drop 1 l) counts in
-    last_epoch incs (Some inc) (a + 1) first rest ∙ omega arith
+-- ---- where each leads to the next epoch, epochs count 1, 2, and so on
 
-pub numbered-epoch : (incs : List Incremental) → AreNumbered incs → epoch incs ≡ length incs
-numbered-epoch incs counts = last_epoch incs None 0 refl counts ∙ omega arith
+abbrev LeadsOn : Incremental → Type 0
+LeadsOn inc = inc.after ≡ inc.epoch - 1
 
-pub numbered-more : (incs : List Incremental) (inc : Incremental) → AreNumbered incs → map_fault incs inc ≡ None → AreNumbered (then_with incs inc)
-numbered-more incs inc counts fine =
-    let last : inc.epoch ≡ 1 + length incs = omega (arith, next_epoch incs inc fine, numbered-epoch incs counts) in
-    let long : length (incs ++ inc ∷ []) ≡ suc (length incs) = omega (arith, length_push incs inc) in
-    map_push (λ (i : Incremental). i.epoch) incs inc
-    ∙ ap₂ (λ l k. l ++ k ∷ []) counts last ∙ sym (range_with_len-suc 1 (length incs)) ∙ ap (range_with_len 1) (sym long)
+count-more : (incs : List Incremental) (inc : Incremental) → map_fault incs inc ≡ None → LeadsOn inc → map (λ i. i.epoch) incs ≡ range_with_len 1 (length incs) → epoch incs ≡ length incs
+    → (map (λ i. i.epoch) (then_with incs inc) ≡ range_with_len 1 (length (then_with incs inc))) × (epoch (then_with incs inc) ≡ length (then_with incs inc))
+count-more incs inc fine on counts ends =
+    let link = linked incs inc fine in
+    let last : inc.epoch ≡ 1 + length incs = omega (arith, on, link.0, link.1, ends) in
+    let long : length (then_with incs inc) ≡ suc (length incs) = omega (arith, length_push incs inc) in (
+      map_push (λ (i : Incremental). i.epoch) incs inc ∙ ap₂ (λ l k. l ++ k ∷ []) counts last ∙ sym (range_with_len-suc 1 (length incs)) ∙ ap (range_with_len 1) (sym long),
+      omega (arith, epoch-snoc incs inc, last, long),
+    )
 
-pub numbered : (incs : List Incremental) → are_checked incs ≡ true → AreNumbered incs
-numbered = search (taken-induction, numbered-more, none_is)
+counts-each : (incs : List Incremental) → are_checked incs ≡ true → ((inc : Incremental) → Contains incs inc → LeadsOn inc) → (map (λ i. i.epoch) incs ≡ range_with_len 1 (length incs)) × (epoch incs ≡ length incs)
+counts-each =
+    taken-induction is_faultless
+    (λ incs. ((inc : Incremental) → Contains incs inc → LeadsOn inc) → (map (λ i. i.epoch) incs ≡ range_with_len 1 (length incs)) × (epoch incs ≡ length incs))
+    (λ each. (refl, refl))
+    (λ incs inc checked faultless before each.
+    let was = before (λ i there. each i (contains-append incs (inc ∷ []) i (inl there))) in
+    count-more incs inc (none_is (map_fault incs inc) faultless) (each inc (contains-append incs (inc ∷ []) inc (inr (Contains-here inc [])))) was.0 was.1)
+
+pub counts : (incs : List Incremental) → are_checked incs ≡ true → All LeadsOn incs → (map (λ i. i.epoch) incs ≡ range_with_len 1 (length incs)) × (epoch incs ≡ length incs)
+counts incs checked each = counts-each incs checked (λ inc there. All-contains LeadsOn incs inc each there)
+
+-- ---- epochs ascend
+
+-- the epoch of an incremental, 0 where there is none
+abbrev epoch_in : Option Incremental → ℕ
+epoch_in o = option_map_or (λ inc. inc.epoch) o 0
+
+abbrev is_earlier : Incremental → Incremental → Type 0
+is_earlier a b = a.epoch < b.epoch
+
+-- none is above the last, nor is the one before them
+none-above : (incs : List Incremental) (o : Option Incremental) → All (λ inc. epoch_in o ≤ inc.epoch) incs → EpochsAscend incs
+    → All (λ inc. inc.epoch ≤ epoch_in (last_or o incs)) incs × (epoch_in o ≤ epoch_in (last_or o incs))
+none-above [] o above ascend = (All-nil (λ inc. inc.epoch ≤ epoch_in o), omega arith)
+none-above (inc ∷ incs) o above ascend =
+    let later : All (λ i. inc.epoch ≤ i.epoch) incs =
+    All-weaker (is_earlier inc) (λ i. inc.epoch ≤ i.epoch) (λ i less. omega arith) incs (AllPairs-first is_earlier inc incs ascend) in
+    let rest = none-above incs (Some inc) later (AllPairs-rest is_earlier inc incs ascend) in
+    let first : epoch_in o ≤ inc.epoch = All-head (λ i. epoch_in o ≤ i.epoch) inc incs above in
+    (All-cons (λ i. i.epoch ≤ epoch_in (last_or (Some inc) incs)) inc incs rest.1 rest.0, omega (arith, first, rest.1))
+
+pub none_above : (incs : List Incremental) → EpochsAscend incs → All (λ inc. inc.epoch ≤ epoch incs) incs
+none_above incs ascend = (none-above incs None (λ k d below. omega arith) ascend).0
+
+pub epochs_ascend-more : (incs : List Incremental) (inc : Incremental) → EpochsAscend incs → map_fault incs inc ≡ None → EpochsAscend (then_with incs inc)
+epochs_ascend-more incs inc ascend fine =
+    all_pairs_push is_earlier incs inc ascend (λ k d below.
+    let within : (get_or incs k d).epoch ≤ epoch incs = none_above incs ascend k d below in omega (arith, within, later_epoch incs inc fine))
+
+pub epochs_ascend : (incs : List Incremental) → are_checked incs ≡ true → EpochsAscend incs
+epochs_ascend =
+    taken-induction is_faultless EpochsAscend (AllPairs-nil is_earlier)
+    (λ incs inc checked faultless before. epochs_ascend-more incs inc before (none_is (map_fault incs inc) faultless))
 
 -- ---- the map of an epoch
 
-up_to-all : (incs : List Incremental) (a e : ℕ) → map (λ inc. inc.epoch) incs ≡ range_with_len a (length incs) → a + length incs ≤ e + 1 → up_to e incs ≡ incs
-up_to-all [] a e counts within = refl
-up_to-all (inc ∷ incs) a e counts within =
-    let rest : map (λ i. i.epoch) incs ≡ range_with_len (a + 1) (length incs) = ap (λ l. drop 1 l) counts in
-    grind (arith, nat_tests, up_to-all incs (a + 1) e rest (omega arith))
+up_to-all : (incs : List Incremental) (at : ℕ) → All (λ inc. inc.epoch ≤ at) incs → up_to at incs ≡ incs
+up_to-all [] at within = refl
+up_to-all (inc ∷ incs) at within =
+    let first : inc.epoch ≤ at = All-head (λ i. i.epoch ≤ at) inc incs within in
+    grind (arith, nat_tests, up_to-all incs at (All-tail (λ i. i.epoch ≤ at) inc incs within))
 
--- the map of the last epoch is that of all
-pub up_to-epoch : (incs : List Incremental) → AreNumbered incs → up_to (epoch incs) incs ≡ incs
-up_to-epoch incs counts = up_to-all incs 1 (epoch incs) counts (omega (arith, numbered-epoch incs counts))
+-- from the last epoch on the map is that of all
+up_to-from : (incs : List Incremental) (at : ℕ) → EpochsAscend incs → epoch incs ≤ at → up_to at incs ≡ incs
+up_to-from incs at ascend from =
+    up_to-all incs at (All-weaker (λ inc. inc.epoch ≤ epoch incs) (λ inc. inc.epoch ≤ at) (λ inc within. omega arith) incs (none_above incs ascend))
+
+pub up_to-epoch : (incs : List Incremental) → EpochsAscend incs → up_to (epoch incs) incs ≡ incs
+up_to-epoch incs ascend = up_to-from incs (epoch incs) ascend (omega arith)
 
 -- maps of earlier epochs stay
 up_to-earlier : (at : ℕ) (incs : List Incremental) (inc : Incremental) → at < inc.epoch → up_to at (then_with incs inc) ≡ up_to at incs
@@ -85,7 +137,7 @@ pub made_at-made : (incs : List Incremental) (inc : Incremental) (id : ℕ) → 
 made_at-made incs inc id makes' = grind (arith, last_where-passes (makes id) incs inc makes')
 
 -- the pool was made by the last incremental or before
-made_at-before : (incs : List Incremental) (id : ℕ) → AreNumbered incs → is_some (pool incs id) ≡ true → made_at incs id ≤ epoch incs
+made_at-before : (incs : List Incremental) (id : ℕ) → EpochsAscend incs → is_some (pool incs id) ≡ true → made_at incs id ≤ epoch incs
 made_at-before incs id counts there =
     let m = maker_of incs id there in
     let all : List Incremental = up_to (epoch incs) incs in
@@ -126,18 +178,53 @@ stays_as incs inc id made (Some base) since new old =
 pool-stays : (incs : List Incremental) (inc : Incremental) (id : ℕ) (made : PoolSpec) → map_fault incs inc ≡ None → pool incs id ≡ Some made → Stays incs inc id made
 pool-stays incs inc id made fine is = grind (arith, nat_tests, unmade, stays_as, made_at-stays, made_of-stays, pool-is)
 
--- ---- the history grows by one state
+-- the map of an epoch that the incremental passes over is the one before
+pub up_to-passed : (incs : List Incremental) (inc : Incremental) (at : ℕ) → EpochsAscend incs → epoch incs ≤ at → at < inc.epoch → up_to at (then_with incs inc) ≡ incs
+up_to-passed incs inc at ascend from below = up_to-earlier at incs inc below ∙ up_to-from incs at ascend from
 
--- the state of the epoch that was current
-state-ended : (incs : List Incremental) (inc : Incremental) (pg : PgId) (made : PoolSpec) → AreNumbered incs → map_fault incs inc ≡ None → pool incs pg.pool ≡ Some made → state_at_epoch (then_with incs inc) pg (epoch incs) ≡ Some (state_with incs (pool_membership incs pg made))
-state-ended incs inc pg made counts fine is = cc (up_to-earlier (epoch incs) incs inc (omega (arith, next_epoch incs inc fine)), up_to-epoch incs counts)
+-- ---- the history grows
 
-states-grow : (incs : List Incremental) (inc : Incremental) (pg : PgId) (made : PoolSpec) (first : ℕ) → AreNumbered incs → map_fault incs inc ≡ None → pool incs pg.pool ≡ Some made → first ≤ epoch incs → states_from (then_with incs inc) pg first ≡ states_from incs pg first ++ state_with incs (pool_membership incs pg made) ∷ []
-states-grow incs inc pg made first counts fine is within =
-    grind (arith, nat_tests, epoch-snoc, next_epoch, range_with_len-suc, filter_map-append, filter_map-agree, up_to-earlier, state-ended)
+-- the state of the epoch that was current, and of those that are passed over
+state-ended : (incs : List Incremental) (inc : Incremental) (pg : PgId) (made : PoolSpec) (at : ℕ) → EpochsAscend incs → epoch incs ≤ at → at < inc.epoch → pool incs pg.pool ≡ Some made → state_at_epoch (then_with incs inc) pg at ≡ Some (state_with incs (pool_membership incs pg made))
+state-ended incs inc pg made at ascend from below is = cc (up_to-passed incs inc at ascend from below)
 
-history_of-grows : (incs : List Incremental) (inc : Incremental) (pg : PgId) (made now : PoolSpec) → now.kind ≡ made.kind → made_at (then_with incs inc) pg.pool ≡ made_at incs pg.pool → states_from (then_with incs inc) pg (made_at incs pg.pool) ≡ states_from incs pg (made_at incs pg.pool) ++ state_with incs (pool_membership incs pg made) ∷ [] → history_of (then_with incs inc) pg now ≡ stepped (history_of incs pg made) (pool_membership (then_with incs inc) pg now) (primary_facts incs (pool_membership incs pg made).acting_primary)
+-- the same state at each epoch
+same-kept : {Y : Type 0} (f : ℕ → Option Y) (y : Y) (a n : ℕ) → ((k : ℕ) → a ≤ k → k < a + n → f k ≡ Some y) → filter_map f (range_with_len a n) ≡ replicate n y
+same-kept f y a zero each = refl
+same-kept f y a (suc n) each =
+    rw (each a (omega arith) (omega arith)) (ap (λ ys. y ∷ ys) (same-kept f y (a + 1) n (λ k from below. each k (omega arith) (omega arith))))
+
+range-append : (a n m : ℕ) → range_with_len a (n + m) ≡ range_with_len a n ++ range_with_len (a + n) m
+range-append a zero m =
+    let from : a ≡ a + 0 = omega arith in
+    let many : 0 + m ≡ m = omega arith in
+    ap₂ range_with_len from many
+range-append a (suc n) m =
+    let from : a + 1 + n ≡ a + suc n = omega arith in
+    let many : suc n + m ≡ suc (n + m) = omega arith in
+    ap (range_with_len a) many ∙ ap (λ xs. a ∷ xs) (range-append (a + 1) n m) ∙ ap (λ b. a ∷ range_with_len (a + 1) n ++ range_with_len b m) from
+
+-- the states before stay
+states-before : (incs : List Incremental) (inc : Incremental) (pg : PgId) (first : ℕ) → epoch incs < inc.epoch → first ≤ epoch incs → filter_map (state_at_epoch (then_with incs inc) pg) (range_with_len first (epoch incs - first)) ≡ states_from incs pg first
+states-before incs inc pg first later within =
+    filter_map-agree (state_at_epoch (then_with incs inc) pg) (state_at_epoch incs pg) first (epoch incs - first)
+    (λ k below. let same : up_to k (then_with incs inc) ≡ up_to k incs = up_to-earlier k incs inc (omega arith) in cc same)
+
+history_of-grows : (incs : List Incremental) (inc : Incremental) (pg : PgId) (made now : PoolSpec) → now.kind ≡ made.kind → made_at (then_with incs inc) pg.pool ≡ made_at incs pg.pool → states_from (then_with incs inc) pg (made_at incs pg.pool) ≡ states_from incs pg (made_at incs pg.pool) ++ replicate (suc (passed_over incs inc)) (state_with incs (pool_membership incs pg made)) → history_of (then_with incs inc) pg now ≡ grown_with incs inc (history_of incs pg made) (pool_membership (then_with incs inc) pg now)
 history_of-grows incs inc pg made now kind since states = grind arith
+
+states-grow : (incs : List Incremental) (inc : Incremental) (pg : PgId) (made : PoolSpec) (first : ℕ) → EpochsAscend incs → epoch incs < inc.epoch → pool incs pg.pool ≡ Some made → first ≤ epoch incs
+    → states_from (then_with incs inc) pg first ≡ states_from incs pg first ++ replicate (suc (passed_over incs inc)) (state_with incs (pool_membership incs pg made))
+states-grow incs inc pg made first ascend later is within =
+    let lasts : ℕ = suc (passed_over incs inc) in
+    let state = state_at_epoch (then_with incs inc) pg in
+    let spans : epoch (then_with incs inc) - first ≡ (epoch incs - first) + lasts = omega (arith, epoch-snoc incs inc) in
+    let ended = same-kept state (state_with incs (pool_membership incs pg made)) (epoch incs) lasts
+    (λ k from below. state-ended incs inc pg made k ascend from (omega arith) is) in
+    ap (λ n. filter_map state (range_with_len first n)) spans
+    ∙ ap (filter_map state) (range-append first (epoch incs - first) lasts ∙ ap (λ a. range_with_len first (epoch incs - first) ++ range_with_len a lasts) (omega arith))
+    ∙ filter_map-append state (range_with_len first (epoch incs - first)) (range_with_len (epoch incs) lasts)
+    ∙ ap₂ (λ (a b : List EpochState). a ++ b) (states-before incs inc pg first later within) ended
 
 has_group-stays : (incs : List Incremental) (inc : Incremental) (pg : PgId) (made : PoolSpec) → Stays incs inc pg.pool made → pool incs pg.pool ≡ Some made → has_group (then_with incs inc) pg ≡ has_group incs pg
 has_group-stays incs inc pg made s is = grind arith
@@ -162,14 +249,14 @@ there_then : (incs : List Incremental) (pg : PgId) (h : History AnyCode) (b : Bo
 there_then incs pg h true found is = refl
 there_then incs pg h false found is = cc
 
-pub history-grows : (incs : List Incremental) (inc : Incremental) (pg : PgId) (h : History AnyCode) → AreNumbered incs → map_fault incs inc ≡ None → group_history incs pg ≡ Some h
-    → group_history (then_with incs inc) pg ≡ option_map (λ members. stepped h members (primary_facts incs h.current.acting_primary)) (membership (then_with incs inc) pg)
+pub history-grows : (incs : List Incremental) (inc : Incremental) (pg : PgId) (h : History AnyCode) → EpochsAscend incs → map_fault incs inc ≡ None → group_history incs pg ≡ Some h
+    → group_history (then_with incs inc) pg ≡ option_map (grown_with incs inc h) (membership (then_with incs inc) pg)
 history-grows incs inc pg h counts fine is =
     let from = history_if incs pg (pool incs pg.pool) h (has_group incs pg) is in
     let made : PoolSpec = from.0 in
     let s = pool-stays incs inc pg.pool made fine from.1.0 in
     let within : made_at incs pg.pool ≤ epoch incs = made_at-before incs pg.pool counts (ap is_some from.1.0) in
-    grind (arith, history_of-grows incs inc pg made s.now s.kind s.since (states-grow incs inc pg made (made_at incs pg.pool) counts fine from.1.0 within))
+    grind (arith, history_of-grows incs inc pg made s.now s.kind s.since (states-grow incs inc pg made (made_at incs pg.pool) counts (later_epoch incs inc fine) from.1.0 within))
 
 pub has_group-grows : (incs : List Incremental) (inc : Incremental) (pg : PgId) (h : History AnyCode) → map_fault incs inc ≡ None → group_history incs pg ≡ Some h → has_group (then_with incs inc) pg ≡ true
 has_group-grows incs inc pg h fine is =
@@ -188,12 +275,10 @@ history-begins-made incs inc pg making there = grind (arith, nat_tests, history-
 -- ---- the last epoch
 
 -- the history reaches the last epoch
-pub history-last : (incs : List Incremental) (pg : PgId) (h : History AnyCode) → AreNumbered incs → group_history incs pg ≡ Some h → h.first + length h.lived ≡ epoch incs
+pub history-last : (incs : List Incremental) (pg : PgId) (h : History AnyCode) → EpochsAscend incs → group_history incs pg ≡ Some h → h.first + length h.lived ≡ epoch incs
 history-last incs pg h counts is = grind (arith, nat_tests, history_if, made_at-before, history-length)
 
 -- what the laws say
-pub ruleset numbered_laws = (numbered, numbered-epoch)
+pub ruleset ascend_laws = (epochs_ascend)
 
 pub ruleset begin_laws = (made_at-made, history-begins-made)
-
-pub ruleset growth_laws = (history-grows, has_group-grows, numbered, front-checked, last-checked)

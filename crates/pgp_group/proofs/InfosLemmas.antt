@@ -1,5 +1,5 @@
 -- What is kept of the infos of a group, as its log grows and as they are looked at.
-use Rattle.pgp_group.proofs.Common.{◌≡◌, ℕ, ◌≤◌, List, [], ◌∷◌, ◌++◌, Some, Bool, true, false, ◌&&◌, length, map, fold, max, take, drop, append-nil, append_assoc, refl, ap, sym, ◌∙◌, subst, arith, All-contains, Contains, filter, and_parts, eqb-true, nat_tests, take-append-drop, map-append, filter-append, fold-append, AnyCode, is_same_member, PrimaryFacts, Incremental, Member, Membership, PgId, Info, HasDistinctMembers, with_infos, History, stepped, filter-contains, epoch, AreNumbered, group_history, GroupLog, incs, infos, has_member, heard, last_of_each_member, KeepsInfos, TakesInfo, Infos}
+use Rattle.pgp_group.proofs.Common.{◌≡◌, ℕ, ◌<◌, ◌≤◌, List, [], ◌∷◌, ◌++◌, Some, Bool, true, false, ◌&&◌, length, map, fold, max, take, drop, append-nil, append_assoc, refl, ap, sym, ◌∙◌, subst, arith, All-contains, Contains, filter, and_parts, eqb-true, nat_tests, take-append-drop, map-append, filter-append, fold-append, AnyCode, is_same_member, Incremental, Member, Membership, PgId, Info, HasDistinctMembers, with_infos, History, filter-contains, epoch, EpochsAscend, grown_with, passed_over, primary_facts, group_history, GroupLog, incs, infos, has_member, heard, last_of_each_member, KeepsInfos, TakesInfo, Infos}
 use Rattle.std.proofs.lemmas.Map.Views.{any-filter_same}
 use Rattle.pgp_group.proofs.FirstLemmas.{first-within, step-moves}
 use Rattle.pgp_group.specs.InboxOf.{with_arrival}
@@ -79,9 +79,9 @@ KeepsInfos-new g after info at old kept here told is inbox les' heard' =
 
 -- ---- the next map
 
-pub moves : (incs : List Incremental) (pg : PgId) (h : History AnyCode) (members : Membership) (facts : PrimaryFacts) → AreNumbered incs → group_history incs pg ≡ Some h → Moves incs h (stepped h members facts)
-moves incs pg h members facts counts' is =
-    grind (arith, step-moves h members facts, first-within incs pg h counts' is, history-last incs pg h counts' is)
+pub moves : (incs : List Incremental) (inc : Incremental) (pg : PgId) (h : History AnyCode) (members : Membership) → EpochsAscend incs → epoch incs < inc.epoch → group_history incs pg ≡ Some h → Moves incs h (grown_with incs inc h members)
+moves incs inc pg h members counts' later is =
+    grind (arith, step-moves h (passed_over incs inc) members (primary_facts incs h.current.acting_primary), first-within incs pg h counts' is, history-last incs pg h counts' is)
 
 -- ---- a look at them
 

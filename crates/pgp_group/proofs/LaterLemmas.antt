@@ -1,8 +1,8 @@
 -- Which reports count as more of the log comes, and what never falls then.
-use Rattle.pgp_group.proofs.Common.{◌≡◌, ◌≢◌, ℕ, ◌+◌, ◌<◌, ◌≤◌, List, [], ◌∷◌, ◌++◌, Some, Bool, true, false, not, ◌&&◌, ◌||◌, nat_le, map, fold, max, refl, append-nil, ap, sym, ◌∙◌, inl, inr, ◌⊎◌, arith, All, filter, cases_Bool, true≢false, and_right, nat_tests, map-append, filter-append, filter_map-append, All-weaker, fold-append, and-true, AnyCode, Entry, Incremental, Member, PgId, Info, Report, is_same_member, History, current_first, map_some, are_checked, boots, takes_down, destroys, is_up, up_from, epoch, then_with, is_same_group, inc_of, report_of, incs_of, infos_of, reports_of, group_history, GroupLog, group_in, group_with, incs, infos, reports, is_counted, heard, last_of_each_member, reported, IsAfter, AreSentBy, les, last-checked}
+use Rattle.pgp_group.proofs.Common.{◌≡◌, ◌≢◌, ℕ, ◌<◌, ◌≤◌, List, [], ◌∷◌, ◌++◌, Some, Bool, true, false, not, ◌&&◌, ◌||◌, nat_le, map, fold, max, refl, append-nil, ap, sym, ◌∙◌, inl, inr, ◌⊎◌, arith, All, filter, cases_Bool, true≢false, and_right, nat_tests, map-append, filter-append, filter_map-append, All-weaker, fold-append, and-true, AnyCode, Entry, Incremental, Member, PgId, Info, Report, is_same_member, History, current_first, map_some, are_checked, boots, takes_down, destroys, is_up, up_from, epoch, then_with, is_same_group, inc_of, report_of, incs_of, infos_of, reports_of, group_history, GroupLog, group_in, group_with, incs, infos, reports, is_counted, heard, last_of_each_member, reported, IsAfter, AreSentBy, les, last-checked}
 use Rattle.pgp_group.specs.Entries.{info_of}
 use Rattle.pgp_group.proofs.FirstLemmas.{first-opens, first-step, along}
-use Rattle.pgp_group.proofs.GrowthLemmas.{epoch-snoc, next_epoch}
+use Rattle.pgp_group.proofs.GrowthLemmas.{epoch-snoc, later_epoch}
 use Rattle.pgp_group.proofs.Lists.{last_where-passes, last_where-none, left_new, filter-fail}
 use Rattle.pgp_ids.specs.declared.entry.Entry.TheVariants as entry
 
@@ -41,12 +41,18 @@ is_after log later pg g after checked is then' =
 below-first : (g : GroupLog) (member : Member) (stamp : ℕ) → stamp < current_first g.history → is_counted g member stamp ≡ false
 below-first g member stamp below = let early : nat_le (current_first g.history) stamp ≡ false = grind (arith, nat_tests) in rw early refl
 
+pub early-counts : (g after : GroupLog) (inc : Incremental) (member : Member) (stamp : ℕ) → IsAfter g (entry.Inc inc ∷ []) after
+    → after.history.current ≢ g.history.current → stamp < inc.epoch → is_counted after member stamp ≡ false
+early-counts g after inc member stamp is differ sent =
+    let hs = histories g (entry.Inc inc ∷ []) after is in
+    let opens : current_first after.history ≡ inc.epoch = first-opens (incs g) inc g.pg g.history after.history hs.checked hs.before hs.then_is differ in
+    below-first after member stamp (omega (arith, opens, sent))
+
 pub new-counts : (g after : GroupLog) (inc : Incremental) (member : Member) (stamp : ℕ) → IsAfter g (entry.Inc inc ∷ []) after
     → after.history.current ≢ g.history.current → stamp ≤ epoch (incs g) → is_counted after member stamp ≡ false
 new-counts g after inc member stamp is differ sent =
     let hs = histories g (entry.Inc inc ∷ []) after is in
-    let opens : current_first after.history ≡ inc.epoch = first-opens (incs g) inc g.pg g.history after.history hs.checked hs.before hs.then_is differ in
-    below-first after member stamp (omega (arith, opens, sent, next_epoch (incs g) inc (last-checked (incs g) inc hs.checked)))
+    early-counts g after inc member stamp is differ (omega (arith, sent, later_epoch (incs g) inc (last-checked (incs g) inc hs.checked)))
 
 -- an incremental brings no reports
 pub same-infos : (g after : GroupLog) (inc : Incremental) → IsAfter g (entry.Inc inc ∷ []) after → infos after ≡ infos g
@@ -121,11 +127,11 @@ still_up incs inc osd silent = grind (arith, last_where-none (tells_of osd) incs
 abbrev pub outlasts : List Incremental → Incremental → ℕ → ℕ → Bool
 outlasts incs inc first osd = nat_le first (epoch incs) && not (tells_of osd inc)
 
--- the first epoch of the current interval stays, or is the next epoch
+-- the first epoch of the current interval stays, or is a later epoch than the last
 abbrev pub Moves : List Incremental → History AnyCode → History AnyCode → Type 0
-Moves incs h after = ((current_first after ≡ current_first h) × (current_first h ≤ epoch incs)) ⊎ (current_first after ≡ epoch incs + 1)
+Moves incs h after = ((current_first after ≡ current_first h) × (current_first h ≤ epoch incs)) ⊎ (epoch incs < current_first after)
 
-pub counts-after : (incs : List Incremental) (inc : Incremental) (h after : History AnyCode) (member : Member) (stamp : ℕ) → inc.epoch ≡ epoch incs + 1 → stamp ≤ epoch incs → Moves incs h after
+pub counts-after : (incs : List Incremental) (inc : Incremental) (h after : History AnyCode) (member : Member) (stamp : ℕ) → epoch incs < inc.epoch → stamp ≤ epoch incs → Moves incs h after
     → counts_by (then_with incs inc) after member stamp ≡ (counts_by incs h member stamp && outlasts incs inc (current_first after) member.osd)
 counts-after incs inc h after member stamp next sent moved =
     grind (arith, nat_tests, told_off incs inc member.osd stamp (nat_le (current_first after) stamp), still_up incs inc member.osd)
@@ -146,7 +152,7 @@ outlasts-same g after incs_is history_is = record {
   counts = λ member stamp sent. (λ i. counts_by (incs_is i) (history_is i) member stamp) ∙ sym (and-true (is_counted g member stamp));
 }
 
-pub outlasts-inc : (g after : GroupLog) (inc : Incremental) → incs after ≡ then_with (incs g) inc → inc.epoch ≡ epoch (incs g) + 1
+pub outlasts-inc : (g after : GroupLog) (inc : Incremental) → incs after ≡ then_with (incs g) inc → epoch (incs g) < inc.epoch
     → Moves (incs g) g.history after.history → Outlasts g after
 outlasts-inc g after inc incs_is next moved = record {
   lasts = outlasts (incs g) inc (current_first after.history);
@@ -161,7 +167,7 @@ Silent member stamp incs h = (stamp ≤ epoch incs) × (counts_by incs h member 
 silent-step : (pg : PgId) (member : Member) (stamp : ℕ) (incs : List Incremental) (inc : Incremental) (h after : History AnyCode) → are_checked (then_with incs inc) ≡ true
     → group_history incs pg ≡ Some h → group_history (then_with incs inc) pg ≡ Some after → Silent member stamp incs h → Silent member stamp (then_with incs inc) after
 silent-step pg member stamp incs inc h after checked is then' silent =
-    let next : inc.epoch ≡ epoch incs + 1 = next_epoch incs inc (last-checked incs inc checked) in
+    let next : epoch incs < inc.epoch = later_epoch incs inc (last-checked incs inc checked) in
     let sent : stamp ≤ epoch incs = silent.0 in
     let later : stamp ≤ epoch (then_with incs inc) = omega (arith, epoch-snoc incs inc, next, sent) in
     let rises : current_first h ≤ current_first after = first-step incs inc pg h after checked is then' in (
@@ -205,6 +211,6 @@ les-rises log later pg g after is grows = grind (arith, les-told log pg g is, le
 -- what the laws say
 pub ruleset later_laws = (les-rises)
 
-pub ruleset new_laws = (new-counts, new-heard, new-reported)
+pub ruleset new_laws = (early-counts, new-heard, new-reported)
 
 pub ruleset never_laws = (never-counts)

@@ -1,5 +1,5 @@
 -- Lists that grow, ranges, and last elements that pass a test.
-use Rattle.pgp_group.proofs.Common.{◌≡◌, ℕ, zero, suc, ◌+◌, ◌<◌, List, [], ◌∷◌, ◌++◌, Option, Some, None, Bool, true, false, ◌&&◌, ◌||◌, length, map, refl, ap, ap₂, sym, ◌∙◌, arith, append-nil, append_assoc, drop, get_or, take, is_some, ◌⊎◌, All, Contains, cons_option, filter, filter_map, flat_map, last_or, list_any, range_with_len, slice_index_or, find, or_parts, take_more, filter-append, filter_map-append, All-head, All-tail, list_any-append, Contains-nil, Contains-here, Contains-later, Contains-first, Contains-cases, append-contains, last_where}
+use Rattle.pgp_group.proofs.Common.{◌≡◌, ℕ, zero, suc, ◌+◌, ◌<◌, List, [], ◌∷◌, ◌++◌, Option, Some, None, Bool, true, false, ◌&&◌, length, map, refl, ap, ap₂, sym, ◌∙◌, arith, append-nil, append_assoc, drop, get_or, take, is_some, ◌⊎◌, All, Contains, cons_option, filter, filter_map, flat_map, last_or, list_any, range_with_len, slice_index_or, find, or_parts, take_more, filter-append, filter_map-append, All-head, All-tail, list_any-append, Contains-nil, Contains-here, Contains-later, Contains-first, Contains-cases, append-contains, last_where}
 pub use Rattle.pgp_lists.proofs.Lists.{any-mapped}
 pub use Rattle.pgp_lists.proofs.Members.{filter-agree, map-agree}
 use Rattle.std.proofs.lemmas.Grind.{common_steps, elements}

@@ -1,10 +1,10 @@
 -- What is so of each interval since it opened.
-use Rattle.pgp_group.proofs.Common.{◌≡◌, ℕ, zero, suc, ◌+◌, ◌<◌, ◌≤◌, List, [], ◌∷◌, Option, Some, None, true, false, length, ap, sym, ◌∙◌, subst, inl, inr, arith, if◌then◌else◌, Contains, range_with_len, slice_index_or, option_map_or, and_parts, cases_Bool, true≢false, is_by_place, AnyCode, first_osd, Incremental, Member, Membership, Past, PgId, History, current_first, Contains-nil, map_some, some_is, taken-induction, taken-more, are_checked, is_faultless, is_up, up_from, epoch, then_with, pool, has_group, held_member, members_of, are_up, membership, pool_membership, group_history, nat_tests, last-checked}
+use Rattle.pgp_group.proofs.Common.{◌≡◌, ℕ, zero, suc, ◌<◌, ◌≤◌, List, [], ◌∷◌, Option, Some, None, true, false, length, ap, sym, ◌∙◌, subst, inl, inr, arith, if◌then◌else◌, Contains, range_with_len, slice_index_or, option_map_or, and_parts, cases_Bool, true≢false, is_by_place, AnyCode, first_osd, Incremental, Member, Membership, Past, PgId, History, current_first, Contains-nil, map_some, some_is, taken-induction, taken-more, are_checked, is_faultless, is_up, up_from, epoch, then_with, pool, has_group, held_member, members_of, are_up, membership, pool_membership, group_history, nat_tests, last-checked}
 use Rattle.pgp_sets.proofs.UpLemmas.{acting-are_up}
 use Rattle.pgp_group.proofs.DeviceLemmas.{up_from-stays, up_from-within}
 use Rattle.pgp_group.proofs.FirstLemmas.{moves, past_of}
 use Rattle.pgp_group.proofs.FirstLemmas.Moves.{on, ends}
-use Rattle.pgp_group.proofs.GrowthLemmas.{epoch-snoc, has_group-unmade, history-begins-made, next_epoch}
+use Rattle.pgp_group.proofs.GrowthLemmas.{epoch-snoc, has_group-unmade, history-begins-made, later_epoch}
 use Rattle.pgp_group.proofs.HistoryLemmas.{history-current}
 use Rattle.pgp_group.proofs.Lists.{filter_map-from, contains-push}
 use Rattle.pgp_group.proofs.ViewLemmas.{history_there}
@@ -59,7 +59,7 @@ opened-next : (incs : List Incremental) (inc : Incremental) (pg : PgId) (h after
 opened-next incs inc pg h after checked is then' opened =
     let fine = last-checked incs inc checked in
     let within : current_first h ≤ epoch incs = opened.within in
-    let next : epoch (then_with incs inc) ≡ epoch incs + 1 = epoch-snoc incs inc ∙ next_epoch incs inc fine in
+    let next : epoch incs < epoch (then_with incs inc) = omega (arith, epoch-snoc incs inc, later_epoch incs inc fine) in
     elim (moves incs inc pg h after checked is then') [
       | on code goes ↦ record {
         since = λ osd leads.
@@ -73,8 +73,8 @@ opened-next incs inc pg h after checked is then' opened =
         since = λ osd leads. omega (arith, up_from-within osd (then_with incs inc) checked, epoch-snoc incs inc, over.first);
         later = λ cleans interval in'.
             elim (contains-push (past_of cleans h) _ interval (subst (λ (l : List Past). Contains l interval) (over.past cleans) in')) [
-              | inl before ↦ omega (arith, opened.later cleans interval before, within, over.first, next_epoch incs inc fine)
-              | inr here ↦ grind (arith, nat_tests, next_epoch)
+              | inl before ↦ omega (arith, opened.later cleans interval before, within, over.first, later_epoch incs inc fine)
+              | inr here ↦ grind (arith, nat_tests, later_epoch)
             ];
         within = omega (arith, over.first, epoch-snoc incs inc);
       }

@@ -1,10 +1,10 @@
 -- A group that needn't be told of each epoch: what it is by later maps, as long as it lies as before.
-use Rattle.pgp_group.proofs.Common.{◌≡◌, ℕ, List, [], ◌∷◌, ◌++◌, Option, Some, None, false, ◌||◌, ◌+◌, map, refl, ap, ◌∙◌, subst, arith, list_any, or_parts, enough_of, is_by_place, AnyCode, Entry, PrimaryFacts, DeviceEpoch, Incremental, PgId, PoolSpec, History, epoch, map_fault, then_with, pool, membership, may_place_elsewhere, inc_of, incs_of, primary_facts, cleans, group_with, IsGroupOf, changes_pool, changes_temp, has_to_do_with, is_touched, may_lie_on, may_move, turned_devices, Group}
+use Rattle.pgp_group.proofs.Common.{◌≡◌, ℕ, List, [], ◌∷◌, ◌++◌, Option, Some, None, false, ◌||◌, ◌+◌, map, refl, ap, ◌∙◌, subst, arith, list_any, or_parts, enough_of, is_by_place, eq-is_same, AnyCode, Entry, PrimaryFacts, DeviceEpoch, Incremental, PgId, PoolSpec, History, epoch, map_fault, then_with, pool, membership, may_place_elsewhere, inc_of, incs_of, passed_over, primary_facts, cleans, group_with, IsGroupOf, changes_pool, changes_temp, has_to_do_with, is_touched, may_lie_on, may_move, turned_devices, Group}
 use Rattle.pgp_ids.specs.declared.entry.Entry.TheVariants as entry
 use Rattle.pgp_interval.proofs.RunningLemmas.{stays}
 use Rattle.pgp_group.specs.Reaching.{reaching}
 use Rattle.pgp_group.proofs.GroupLemmas.{IsGroupOf-inc, names-stay}
-use Rattle.pgp_group.proofs.GrowthLemmas.{epoch-snoc, history-last, next_epoch}
+use Rattle.pgp_group.proofs.GrowthLemmas.{epoch-snoc, history-last, later_epoch}
 use Rattle.pgp_group.proofs.HistoryLemmas.{history-current}
 use Rattle.pgp_group.proofs.Lists.{none-append, none-narrower, one_new}
 use Rattle.pgp_group.proofs.UntoldLemmas.{IsLeft, UpsStay, members-same, pool-same, same_up}
@@ -15,7 +15,7 @@ use Rattle.pgp_group.proofs.UntouchedLemmas.{IsApart, apart}
 -- that of its log
 pub reached-now : (log : List Entry) (pg : PgId) (group : Group) → IsGroupOf log pg group → IsGroupOf log pg (reaching (epoch (incs_of log)) group)
 reached-now log pg group is =
-    let at : group.intervals.last ≡ epoch (incs_of log) = is.keeps.intervals_are.last_is ∙ history-last (incs_of log) pg is.history is.numbered is.history_is in
+    let at : group.intervals.last ≡ epoch (incs_of log) = is.keeps.intervals_are.last_is ∙ history-last (incs_of log) pg is.history is.ascend is.history_is in
     subst (λ (e : ℕ). IsGroupOf log pg (reaching e group)) at is
 
 -- its current interval goes on
@@ -25,10 +25,12 @@ reaches-next log inc pg group fine same is =
     let h : History AnyCode = is.history in
     let facts : PrimaryFacts = primary_facts (incs_of log) h.current.acting_primary in
     let to : ℕ = epoch (incs_of (log ++ entry.Inc inc ∷ [])) in
-    let next : to ≡ epoch (incs_of log) + 1 = ap epoch (one_new inc_of log (entry.Inc inc) inc refl) ∙ epoch-snoc (incs_of log) inc ∙ next_epoch (incs_of log) inc fine in
+    let passed : ℕ = passed_over (incs_of log) inc in
+    let next : to ≡ epoch (incs_of log) + passed + 1 =
+    omega (arith, ap epoch (one_new inc_of log (entry.Inc inc) inc refl), epoch-snoc (incs_of log) inc, later_epoch (incs_of log) inc fine) in
     IsGroupOf-inc log inc pg (reaching (epoch (incs_of log)) group) (reaching to group) h.current is fine (same ∙ history-current (incs_of log) pg h is.history_is) refl refl refl refl
-    (stays enough_of is_by_place (cleans (group_with log pg h)) h (reaching (epoch (incs_of log)) group).intervals is.keeps.intervals_are (facts ∷ []) to next)
-    (names-stay log inc pg h facts group.named is.keeps.named_are)
+    (stays enough_of is_by_place (cleans (group_with log pg h)) h (reaching (epoch (incs_of log)) group).intervals is.keeps.intervals_are passed h.current facts to next (eq-is_same _ _ is.keeps.intervals_are.current_is))
+    (names-stay log inc pg h passed facts group.named is.keeps.named_are)
 
 -- ---- an incremental by which the group lies as before
 

@@ -1,11 +1,11 @@
 -- That a group which served may have gone read-write in its interval, once that is past, and that whoever serves later has
 -- reckoned with it.
-use Rattle.pgp_group.proofs.Common.{◌≡◌, ℕ, ◌+◌, ◌<◌, ◌≤◌, List, [], ◌∷◌, ◌++◌, Some, None, is_some, Bool, true, false, not, nat_le, nat_lt, refl, ap, sym, ◌∙◌, subst, inl, inr, ◌⊎◌, arith, Contains, or_parts, nat_tests, filter_map-append, enough_of, is_by_place, AnyCode, osd_count, Entry, Incremental, Membership, Past, PgId, Verdict, Short, Serve, History, last_place, current_first, current_ending, contains-append, Contains-here, none_is, some_is, some_mapped, taken-along, are_checked, is_faultless, up_from, up_thru, epoch, map_fault, then_with, inc_of, incs_of, group_history, primary_facts, GroupLog, cleans, group_in, incs, IsAfter, past, Remembers, IsStillCurrent, IsRemembered, holds, place_of, verdict, ◌&&◌, ◌||◌, map, or-true, enough_of-mono, Member, Down, Waiting, filter-contains, contains-filter, map-contains, contains-map, none-contains, nat_order, ascending-contains, contains-ascending, acting_where, blocks, has_down, is_settled, matters, settled_slots, slots_of, status, Status, les, heard, has_member, prior, is_lost, acting_of, heard_or_lost, IsAccountedFor, IsReckonedWith, front-checked, last-checked}
+use Rattle.pgp_group.proofs.Common.{◌≡◌, ℕ, ◌+◌, ◌-◌, ◌<◌, ◌≤◌, List, [], ◌∷◌, ◌++◌, Some, None, is_some, Bool, true, false, not, nat_le, nat_lt, refl, ap, sym, ◌∙◌, subst, inl, inr, ◌⊎◌, arith, Contains, or_parts, nat_tests, filter_map-append, enough_of, is_by_place, AnyCode, osd_count, Entry, Incremental, Membership, Past, PgId, Verdict, Short, Serve, History, last_place, current_first, ending_at, contains-append, Contains-here, none_is, some_is, some_mapped, taken-along, are_checked, is_faultless, up_from, up_thru, epoch, map_fault, then_with, inc_of, incs_of, group_history, primary_facts, GroupLog, cleans, group_in, incs, IsAfter, past, Remembers, IsStillCurrent, IsRemembered, holds, place_of, verdict, ◌&&◌, ◌||◌, map, or-true, enough_of-mono, Member, Down, Waiting, filter-contains, contains-filter, map-contains, contains-map, none-contains, nat_order, ascending-contains, contains-ascending, acting_where, blocks, has_down, is_settled, matters, settled_slots, slots_of, status, Status, les, heard, has_member, prior, is_lost, acting_of, heard_or_lost, IsAccountedFor, IsReckonedWith, front-checked, last-checked}
 use Rattle.pgp_interval.specs.ReadWrite.{acting_slots, may_have_gone_rw}
 use Rattle.pgp_map.proofs.CheckedLemmas.{up_thru-more}
 use Rattle.pgp_group.proofs.DeviceLemmas.{up_from-stays}
 use Rattle.pgp_group.proofs.FirstLemmas.{Ends, Moves, along, moves, past_of}
-use Rattle.pgp_group.proofs.GrowthLemmas.{epoch-snoc, has_group-grows, history-last, next_epoch, numbered}
+use Rattle.pgp_group.proofs.GrowthLemmas.{epoch-snoc, has_group-grows, history-last, later_epoch, epochs_ascend}
 use Rattle.pgp_group.proofs.LaterLemmas.{histories}
 use Rattle.pgp_group.proofs.Lists.{contains-push}
 use Rattle.pgp_group.proofs.OpeningLemmas.{IsOpened, opened, primary-up}
@@ -70,17 +70,17 @@ went_rw : (code : AnyCode) (cleans : List ℕ) (members : Membership) (osd first
     → may_have_gone_rw (enough_of code) (is_by_place code) cleans (record { members = members; facts = primary_facts incs members.acting_primary }) first last ≡ true
 went_rw code cleans members osd first last incs fit thru since = grind (arith, nat_tests)
 
-stands-ended : (cleans : List ℕ) (g : GroupLog) (osd : ℕ) (incs : List Incremental) (inc : Incremental) (h after : History AnyCode) → inc.epoch ≡ epoch incs + 1 → h.first + last_place h ≡ epoch incs → IsOpened incs h
+stands-ended : (cleans : List ℕ) (g : GroupLog) (osd : ℕ) (incs : List Incremental) (inc : Incremental) (h after : History AnyCode) → epoch incs < inc.epoch → h.first + last_place h ≡ epoch incs → IsOpened incs h
     → Ends inc.epoch (primary_facts incs h.current.acting_primary) h after → Runs g osd incs h → IsOver cleans g after
 stands-ended cleans g osd incs inc h after next last opened over runs =
-    let ending : Past = current_ending enough_of is_by_place cleans h (primary_facts incs h.current.acting_primary) in
+    let ending : Past = ending_at enough_of is_by_place cleans h (inc.epoch - 1) (primary_facts incs h.current.acting_primary) in
     let is : current_first h ≡ current_first g.history = runs.first_is in
     let rw' : ending.rw ≡ true =
-    went_rw h.code cleans h.current osd (current_first h) (h.first + last_place h) incs runs.fit (omega (arith, runs.thru, is)) (omega (arith, runs.since, is)) in
+    went_rw h.code cleans h.current osd (current_first h) (inc.epoch - 1) incs runs.fit (omega (arith, runs.thru, is)) (omega (arith, runs.since, is)) in
     let remembers : Remembers g ending = record {
       opened = is;
       of_members = runs.current_is;
-      lasted = omega (arith, runs.lasts, last);
+      lasted = omega (arith, runs.lasts, last, next);
       rw = rw';
     } in
     record {
@@ -97,10 +97,10 @@ stands-ended cleans g osd incs inc h after next last opened over runs =
       later = omega (arith, opened.within, is, over.first, next);
     }
 
-over-ended : (cleans : List ℕ) (g : GroupLog) (incs : List Incremental) (inc : Incremental) (h after : History AnyCode) → inc.epoch ≡ epoch incs + 1 → IsOpened incs h
+over-ended : (cleans : List ℕ) (g : GroupLog) (incs : List Incremental) (inc : Incremental) (h after : History AnyCode) → epoch incs < inc.epoch → IsOpened incs h
     → Ends inc.epoch (primary_facts incs h.current.acting_primary) h after → IsOver cleans g h → IsOver cleans g after
 over-ended cleans g incs inc h after next opened ended over =
-    let ending : Past = current_ending enough_of is_by_place cleans h (primary_facts incs h.current.acting_primary) in
+    let ending : Past = ending_at enough_of is_by_place cleans h (inc.epoch - 1) (primary_facts incs h.current.acting_primary) in
     record {
       among = (
         over.among.0,
@@ -120,11 +120,11 @@ stands-step : (cleans : List ℕ) (g : GroupLog) (osd : ℕ) (pg : PgId) (incs :
 stands-step cleans g osd pg incs inc h after checked is then' stands =
     let fine = last-checked incs inc checked in
     let before = front-checked incs (inc ∷ []) checked in
-    let next : inc.epoch ≡ epoch incs + 1 = next_epoch incs inc fine in
-    let last : h.first + last_place h ≡ epoch incs = history-last incs pg h (numbered incs before) is in
+    let next : epoch incs < inc.epoch = later_epoch incs inc fine in
+    let last : h.first + last_place h ≡ epoch incs = history-last incs pg h (epochs_ascend incs before) is in
     by (moves incs inc pg h after checked is then') fine next last (opened pg incs before h is) stands
   where
-    by : Moves incs inc h after → map_fault incs inc ≡ None → inc.epoch ≡ epoch incs + 1 → h.first + last_place h ≡ epoch incs → IsOpened incs h → Stands cleans g osd incs h → Stands cleans g osd (then_with incs inc) after
+    by : Moves incs inc h after → map_fault incs inc ≡ None → epoch incs < inc.epoch → h.first + last_place h ≡ epoch incs → IsOpened incs h → Stands cleans g osd incs h → Stands cleans g osd (then_with incs inc) after
     by (on code goes) fine next last open' (inl runs) = inl (record {
       fit = subst (λ (m : Membership). IsFit after.code m osd) (sym goes.current) (subst (λ (c : AnyCode). IsFit c h.current osd) (sym code) runs.fit);
       first_is = goes.first ∙ runs.first_is;

@@ -1,8 +1,8 @@
 -- An entry that doesn't touch a group leaves its view as it was, except for count and epoch.
-use Rattle.pgp_group.proofs.Common.{◌≡◌, ℕ, List, [], ◌∷◌, ◌++◌, Option, Some, None, true, false, length, map, refl, ap, sym, ◌∙◌, arith, filter, list_any, option_map, or_parts, enough_of, is_by_place, AnyCode, Entry, EpochState, PrimaryFacts, Incremental, PgId, PoolSpec, Info, Report, History, stepped, past_intervals, are_checked, device, epoch, then_with, pool, has_group, is_same_group, pool_membership, inc_of, incs_of, infos_of, reports_of, primary_facts, group_history, group_with, names, has_to_do_with, changed_devices, is_touched, view_at, view_of, scratch, nat_tests, front-checked, last-checked, current_first-continues, past_intervals-continues}
+use Rattle.pgp_group.proofs.Common.{◌≡◌, ℕ, List, [], ◌∷◌, ◌++◌, Option, Some, None, true, false, length, map, refl, ap, sym, ◌∙◌, arith, filter, list_any, option_map, or_parts, enough_of, is_by_place, AnyCode, Entry, EpochState, PrimaryFacts, Incremental, PgId, PoolSpec, Info, Report, History, past_intervals, are_checked, device, epoch, map_fault, then_with, pool, has_group, is_same_group, pool_membership, membership, inc_of, incs_of, infos_of, reports_of, primary_facts, grown_with, passed_over, group_history, group_with, names, has_to_do_with, changed_devices, is_touched, view_at, view_of, scratch, nat_tests, front-checked, last-checked, current_first-goes_on, past_intervals-goes_on}
 use Rattle.pgp_ids.specs.declared.entry.Entry.TheVariants as entry
 use Rattle.pgp_group.proofs.GroupLemmas.{infos-other, infos-same, reports-other, reports-same}
-use Rattle.pgp_group.proofs.GrowthLemmas.{history-grows, numbered}
+use Rattle.pgp_group.proofs.GrowthLemmas.{history-grows, epochs_ascend}
 use Rattle.pgp_group.proofs.HistoryLemmas.{history_if, history-current}
 use Rattle.pgp_group.proofs.Lists.{nothing_new, one_new}
 use Rattle.pgp_group.proofs.SameViewLemmas.{view-same}
@@ -54,30 +54,40 @@ named-stay : (log : List Entry) (inc : Incremental) (pg : PgId) (h : History Any
 named-stay log inc pg h osd is there named = grind (arith, nat_tests, same_device)
 
 -- the current interval goes on
+lies-still : (log : List Entry) (inc : Incremental) (pg : PgId) (h : History AnyCode) (made : PoolSpec) → map_fault (incs_of log) inc ≡ None → IsApart log inc pg
+    → group_history (incs_of log) pg ≡ Some h → pool (incs_of log) pg.pool ≡ Some made → membership (then_with (incs_of log) inc) pg ≡ Some h.current
+lies-still log inc pg h made fine is there found =
+    let stay = ups-stay (incs_of log) inc pg made (devices-stay log inc pg made is found) in
+    ap (option_map (pool_membership (then_with (incs_of log) inc) pg)) (pool-same (incs_of log) inc pg.pool is.left.pool ∙ found)
+    ∙ ap Some (members-same (incs_of log) inc pg made fine is.left found stay)
+    ∙ sym (ap (option_map (pool_membership (incs_of log) pg)) found) ∙ history-current (incs_of log) pg h there
+
 history-goes_on : (log : List Entry) (inc : Incremental) (pg : PgId) (h : History AnyCode) (made : PoolSpec) → are_checked (then_with (incs_of log) inc) ≡ true → IsApart log inc pg
     → group_history (incs_of log) pg ≡ Some h → pool (incs_of log) pg.pool ≡ Some made
-    → group_history (then_with (incs_of log) inc) pg ≡ Some (stepped h h.current (primary_facts (incs_of log) h.current.acting_primary))
+    → group_history (then_with (incs_of log) inc) pg ≡ Some (grown_with (incs_of log) inc h h.current)
 history-goes_on log inc pg h made checked is there found =
-    grind (arith, nat_tests, pool-same, members-same, ups-stay, devices-stay, history-grows, numbered, front-checked, last-checked, history-current)
+    history-grows (incs_of log) inc pg h (epochs_ascend (incs_of log) (front-checked (incs_of log) (inc ∷ []) checked)) (last-checked (incs_of log) inc checked) there
+    ∙ ap (option_map (grown_with (incs_of log) inc h)) (lies-still log inc pg h made (last-checked (incs_of log) inc checked) is there found)
 
 view-stays : (log : List Entry) (inc : Incremental) (pg : PgId) (h : History AnyCode) → are_checked (then_with (incs_of log) inc) ≡ true → IsApart log inc pg
     → group_history (incs_of log) pg ≡ Some h → Stays log (entry.Inc inc) pg
 view-stays log inc pg h checked is there =
     let made = history_if (incs_of log) pg (pool (incs_of log) pg.pool) h (has_group (incs_of log) pg) there in
     let facts : PrimaryFacts = primary_facts (incs_of log) h.current.acting_primary in
-    let lived : List EpochState = (stepped h h.current facts).lived in
-    let grown : incs_of (log ++ entry.Inc inc ∷ []) ≡ then_with (incs_of log) inc = one_new inc_of log (entry.Inc inc) inc refl in
-    let after : group_history (incs_of (log ++ entry.Inc inc ∷ [])) pg ≡ Some (stepped h h.current facts) = grind (arith, nat_tests, history-goes_on) in
+    let passed : ℕ = passed_over (incs_of log) inc in
+    let lived : List EpochState = (grown_with (incs_of log) inc h h.current).lived in
+    let grows : incs_of (log ++ entry.Inc inc ∷ []) ≡ then_with (incs_of log) inc = one_new inc_of log (entry.Inc inc) inc refl in
+    let after : group_history (incs_of (log ++ entry.Inc inc ∷ [])) pg ≡ Some (grown_with (incs_of log) inc h h.current) = grind (arith, nat_tests, history-goes_on) in
     let leads : (osd : ℕ) → h.current.acting_primary ≡ Some osd → device (incs_of (log ++ entry.Inc inc ∷ [])) osd ≡ device (incs_of log) osd = λ osd first.
     let first' : (pool_membership (incs_of log) pg made.0).acting_primary ≡ Some osd = ap (λ (t : History AnyCode). t.current.acting_primary) made.1.1 ∙ first in
-    ap (λ (l : List Incremental). device l osd) grown ∙ leader-same (incs_of log) inc pg made.0 osd (devices-stay log inc pg made.0 is made.1.0) first' in
+    ap (λ (l : List Incremental). device l osd) grows ∙ leader-same (incs_of log) inc pg made.0 osd (devices-stay log inc pg made.0 is made.1.0) first' in
     ap (λ (o : Option (History AnyCode)). option_map view_of (option_map (group_with (log ++ entry.Inc inc ∷ []) pg) o)) after
     ∙ ap Some (view-same log (log ++ entry.Inc inc ∷ []) pg h lived (record {
-      first = current_first-continues h facts;
-      past = grind (arith, infos-same log (entry.Inc inc) pg refl, past_intervals-continues);
+      first = current_first-goes_on h passed facts;
+      past = grind (arith, infos-same log (entry.Inc inc) pg refl, past_intervals-goes_on);
       infos = infos-same log (entry.Inc inc) pg refl;
       reports = reports-same log (entry.Inc inc) pg refl;
-      named = λ osd named. ap (λ (l : List Incremental). device l osd) grown ∙ named-stay log inc pg h osd is there named;
+      named = λ osd named. ap (λ (l : List Incremental). device l osd) grows ∙ named-stay log inc pg h osd is there named;
       leads = leads;
     }))
     ∙ ap (λ (o : Option (History AnyCode)). option_map (view_at (length (log ++ entry.Inc inc ∷ [])) (epoch (incs_of (log ++ entry.Inc inc ∷ [])))) (option_map view_of (option_map (group_with log pg) o))) (sym there)

@@ -1,6 +1,6 @@
 -- The history of a placement group, as a list of map incrementals tells it: from the epoch that made its pool to that of
 -- the last map (Ceph's developer documentation on peering: past intervals).
-use Rattle.std.specs.Prelude.{◌≡◌, ℕ, ◌-◌, List, Bool, nat_eq, Option, Some, None, length, map, option_map, filter_map, if◌then◌else◌}
+use Rattle.std.specs.Prelude.{ℕ, ◌-◌, ◌<◌, List, Bool, nat_eq, Option, Some, None, option_map, filter_map, if◌then◌else◌, AllPairs}
 use Rattle.std.specs.List.{list_any, range_with_len}
 use Rattle.std.specs.Option.{option_map_or}
 use Rattle.pgp_code.specs.declared.any.AnyCode.{AnyCode}
@@ -10,7 +10,7 @@ use Rattle.pgp_ids.specs.declared.incremental.Incremental.{Incremental}
 use Rattle.pgp_ids.specs.declared.membership.Membership.{Membership}
 use Rattle.pgp_ids.specs.declared.pg_id.PgId.{PgId}
 use Rattle.pgp_ids.specs.declared.pool.PoolSpec.{PoolSpec}
-use Rattle.pgp_interval.specs.History.{History}
+use Rattle.pgp_interval.specs.History.{History, grown}
 use Rattle.pgp_map.specs.Devices.{up_from, up_thru}
 use Rattle.pgp_map.specs.Last.{last_where}
 use Rattle.pgp_map.specs.Map.{epoch, up_to}
@@ -18,9 +18,13 @@ use Rattle.pgp_map.specs.Pools.{pool, has_group}
 use Rattle.pgp_sets.specs.Sets.{pool_membership, membership, membership_at}
 use Rattle.pgp_code.specs.Pool.{code_of}
 
--- the epochs of the incrementals are 1, 2, and so on
-abbrev pub AreNumbered : List Incremental → Type 0
-AreNumbered incs = map (λ inc. inc.epoch) incs ≡ range_with_len 1 (length incs)
+-- each incremental leads to a later epoch than those before it
+abbrev pub EpochsAscend : List Incremental → Type 0
+EpochsAscend incs = AllPairs (λ earlier later. earlier.epoch < later.epoch) incs
+
+-- how many epochs the incremental passes over, which have the map that these make
+abbrev pub passed_over : List Incremental → Incremental → ℕ
+passed_over incs inc = inc.epoch - epoch incs - 1
 
 -- the incremental makes the pool
 abbrev pub makes : ℕ → Incremental → Bool
@@ -47,7 +51,7 @@ group_facts incs pg = option_map (primary_facts incs) (group_primary incs pg)
 abbrev pub state_with : List Incremental → Membership → EpochState
 state_with incs members = record { members = members; facts = primary_facts incs members.acting_primary }
 
--- the group's state at an epoch, by the map of that epoch
+-- the group's state at an epoch, by the map of that epoch; an epoch that was passed over has the map of the one before it
 abbrev pub state_at_epoch : List Incremental → PgId → ℕ → Option EpochState
 state_at_epoch incs pg at = option_map (state_with (up_to at incs)) (membership_at at incs pg)
 
@@ -64,6 +68,10 @@ history_of incs pg pool =
       lived = states_from incs pg (made_at incs pg.pool);
       current = pool_membership incs pg pool;
     }
+
+-- the history with one incremental more, by whose map the group lies at these members
+abbrev pub grown_with : List Incremental → Incremental → History AnyCode → Membership → History AnyCode
+grown_with incs inc h members = grown h (passed_over incs inc) members (primary_facts incs h.current.acting_primary)
 
 -- the history of a group, where the map has the group
 abbrev pub group_history : List Incremental → PgId → Option (History AnyCode)

@@ -1,20 +1,18 @@
 -- What the code of a group keeps of the log that it was made by.
-use Rattle.std.specs.Prelude.{◌≡◌, ◌+◌, ◌≤◌, List, [], Some, true, filter}
+use Rattle.std.specs.Prelude.{◌≡◌, ◌≤◌, List, [], Some, true, filter}
 use Rattle.pgp_code.specs.AnyCode.{enough_of, is_by_place}
 use Rattle.pgp_code.specs.declared.any.AnyCode.{AnyCode}
 use Rattle.pgp_ids.specs.declared.entry.Entry.{Entry}
-use Rattle.pgp_ids.specs.declared.incremental.Incremental.{Incremental}
 use Rattle.pgp_ids.specs.declared.pg_id.PgId.{PgId}
 use Rattle.pgp_ids.specs.declared.report.Info.{Info}
 use Rattle.pgp_interval.specs.History.{History}
 use Rattle.pgp_interval.specs.IntervalsOf.{IsIntervalsOf}
 use Rattle.pgp_map.specs.Held.{HasGroup}
 use Rattle.pgp_map.specs.Map.{epoch}
-use Rattle.pgp_map.specs.MapOf.{IsMapOf}
 use Rattle.pgp_map.specs.Pools.{is_same_group}
 use Rattle.pgp_map.specs.declared.map.OsdMap.{OsdMap}
 use Rattle.pgp_group.specs.Entries.{incs_of, info_of, infos_of, reports_of}
-use Rattle.pgp_group.specs.GroupHistory.{AreNumbered, group_history}
+use Rattle.pgp_group.specs.GroupHistory.{EpochsAscend, group_history}
 use Rattle.pgp_group.specs.GroupLog.{GroupLog, cleans, group_with}
 use Rattle.pgp_group.specs.KeptInfos.{KeepsInfos}
 use Rattle.pgp_group.specs.KeptNames.{KeepsNames}
@@ -32,11 +30,11 @@ pub record Keeps (g : GroupLog) (group : Group) : Type 0 where
   pub named_are : KeepsNames g group.named
   pub prior_is : KeepsPrior g group.reckoned
 
--- the group stands for this group of the log, whose incrementals have the epochs 1, 2, and so on
+-- the group stands for this group of the log, in which the epochs of the incrementals ascend
 pub record IsGroupOf (log : List Entry) (pg : PgId) (group : Group) : Type 0 where
   pub history : History AnyCode
   pub history_is : group_history (incs_of log) pg ≡ Some history
-  pub numbered : AreNumbered (incs_of log)
+  pub ascend : EpochsAscend (incs_of log)
   pub keeps : Keeps (group_with log pg history) group
 
 -- none of the log's reports is of the group
@@ -48,9 +46,6 @@ pub record IsSilent (log : List Entry) (pg : PgId) : Type 0 where
 abbrev pub TellsNothingAhead : List Entry → PgId → Entry → Type 0
 TellsNothingAhead log pg new = (info : Info) → info_of new ≡ Some info → is_same_group info.pg pg ≡ true → info.last_epoch_clean ≤ epoch (incs_of log)
 
--- the map is the one of the epoch after that of the group, and has the group
-pub record Follows (group : Group) (map : OsdMap) : Type 0 where
-  pub incs : List Incremental
-  pub is : IsMapOf incs map
-  pub there : HasGroup map group.pg
-  pub next : epoch incs ≡ group.intervals.last + 1
+-- the map has the group
+abbrev pub IsThere : Group → OsdMap → Type 0
+IsThere group map = HasGroup map group.pg

@@ -16,10 +16,10 @@ ghost use Rattle.pgp_map.specs.MapFault.{map_fault, then_with};
 ghost use Rattle.pgp_map.specs.MapOf.{IsMapOf};
 ghost use Rattle.pgp_map.specs.Pools.{has_group, is_same_group};
 ghost use Rattle.pgp_group.specs.Entries.{inc_of, incs_of};
-ghost use Rattle.pgp_group.specs.GroupHistory.{AreNumbered, made_at};
+ghost use Rattle.pgp_group.specs.GroupHistory.{EpochsAscend, made_at};
 ghost use Rattle.pgp_group.specs.Causes.{AreCauses};
 ghost use Rattle.pgp_group.specs.GroupLog.{GroupLog, cleans, incs};
-ghost use Rattle.pgp_group.specs.GroupOf.{Keeps, IsGroupOf, IsSilent, Follows, TellsNothingAhead};
+ghost use Rattle.pgp_group.specs.GroupOf.{Keeps, IsGroupOf, IsSilent, IsThere, TellsNothingAhead};
 ghost use Rattle.pgp_group.specs.Heard.{les};
 ghost use Rattle.pgp_group.specs.KeptPrior.{IsReckoned, KeepsPrior};
 ghost use Rattle.pgp_group.specs.Parts.{AreHeard, AreLogsHeard, IsBestCopy, AreNeeds};
@@ -85,7 +85,7 @@ impl Group {
     /// The group at the epoch that made its pool, of which nothing was reported yet. It takes no memory.
     pub fn begin(alloc: Global, map: &OsdMap, pg: PgId) -> Self
         requires { HasGroup map.now pg }
-        ensures { (log : List AnyEntry) → AreNumbered (incs_of log) → IsMapOf (incs_of log) map.now
+        ensures { (log : List AnyEntry) → EpochsAscend (incs_of log) → IsMapOf (incs_of log) map.now
             → has_group (incs_of log) pg ≡ true → made_at (incs_of log) pg.pool ≡ epoch_of (incs_of log)
             → IsSilent log pg → IsGroupOf log pg result }
     {
@@ -95,10 +95,10 @@ impl Group {
         Group::begin_members(alloc, map, pg, members)
     }
 
-    /// Takes the next map. `before` is the one that it was until now. After an error the group stands for the same log. It is
+    /// Takes the next map, which has the group. `before` is the one that it was until now. After an error the group stands for the same log. It is
     /// for a caller that keeps no raw sets; a shard calls `absorb_members`.
     pub fn absorb_map(&mut self, before: &OsdMap, after: &OsdMap) -> Result<(), AllocError>
-        requires { Follows self.old after.now }
+        requires { IsThere self.old after.now }
         ensures ok { OnOk result ((log : List AnyEntry) (pg : Id) (inc : Incremental)
             → IsGroupOf log pg self.old → map_fault (incs_of log) inc ≡ None
             → IsMapOf (incs_of log) before.now → IsMapOf (then_with (incs_of log) inc) after.now

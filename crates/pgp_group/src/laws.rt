@@ -101,6 +101,15 @@ pub fn known_up_by_the_last_map()
         ≡ Some (was 1 2 (on_three 2) false ∷ []) }
 {}
 
+/// An interval that an incremental ends goes on through the epochs that this passes over.
+pub fn epochs_that_are_passed_over()
+    ensures past { let incs = copies_on_three ∷ known_up 2 0 1 ∷ record (take_down 6 (1 ∷ [])) { after = 2 } ∷ [] in
+        option_map (past_intervals enough_of is_by_place []) (group_history incs copies_group)
+        ≡ Some (was 1 5 (on_three 2) true ∷ []) }
+    ensures first { let incs = copies_on_three ∷ known_up 2 0 1 ∷ record (take_down 6 (1 ∷ [])) { after = 2 } ∷ [] in
+        option_map current_first (group_history incs copies_group) ≡ Some 6 }
+{}
+
 /// New sizes open an interval, though the devices stay, and up_thru has to reach its first epoch.
 pub fn new_sizes_open_an_interval()
     ensures past { option_map (past_intervals enough_of is_by_place [])

@@ -1,4 +1,4 @@
-ghost use Rattle.std.specs.Prelude.{◌≡◌, ℕ, ◌+◌, ◌<◌, ◌^◌, Some, SomeIff};
+ghost use Rattle.std.specs.Prelude.{◌≡◌, ℕ, ◌+◌, ◌-◌, ◌<◌, ◌^◌, Some, SomeIff};
 
 use std::fmt;
 use std::marker::Model;
@@ -30,6 +30,15 @@ impl Epoch {
         ensures { result ≡ self }
     {
         self.number
+    }
+
+    /// The epoch before this one; that of 0 is 0.
+    pub fn before(self) -> Self
+        ensures { result ≡ self - 1 }
+    {
+        Epoch {
+            number: self.number.saturating_sub(1),
+        }
     }
 
     /// The epoch after this one, where there is one.

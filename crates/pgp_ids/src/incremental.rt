@@ -28,8 +28,12 @@ pub struct TempList {
 }
 
 /// The step from one cluster map to the next. All its parts take effect together.
+///
+/// The epochs between the two have the map that it changes: nothing was told of them.
 #[derive(Debug, Drop)]
 pub struct Incremental {
+    /// The epoch of the map that it changes.
+    pub after: Epoch,
     /// The epoch of the map to which it leads.
     pub epoch: Epoch,
     /// The devices that boot.

@@ -10,7 +10,7 @@ use std::fmt;
 /// these in the order in which they stand here.
 #[derive(Clone, Copy, Debug, PartialEq, Eq)]
 pub enum Refusal {
-    /// The incremental's epoch isn't the one after the map's.
+    /// The incremental changes a map of another epoch, or leads to no later one.
     EpochGap,
     /// A device, pool or group is named twice where it may be named once.
     Twice,

@@ -3,6 +3,7 @@ pub mod Openings
 pub mod Places
 pub mod IntervalLemmas
 pub mod StepLemmas
+pub mod GrownLemmas
 pub mod CleanLemmas
 pub mod RaiseLemmas
 pub mod CleanedLemmas

@@ -8,7 +8,7 @@ use Rattle.pgp_ids.specs.declared.history.PrimaryFacts.{PrimaryFacts}
 use Rattle.pgp_ids.specs.declared.membership.Membership.{Membership}
 use Rattle.pgp_interval.specs.SameMembers.{is_same}
 use Rattle.pgp_interval.specs.History.{History, stepped, last_place, current_state, state_at, members_at}
-use Rattle.pgp_interval.specs.Runs.{ends_at, opens_at, opening_of, past_ending, past_ends, past_intervals, current_first, current_ending}
+use Rattle.pgp_interval.specs.Runs.{ends_at, opens_at, opening_of, past_ending, past_ends, past_intervals, current_first, ending_at}
 use Rattle.pgp_interval.proofs.Openings.{opening_of-opens, opening_of-stays, opens_at-next}
 use Rattle.pgp_lists.proofs.Members.{filter-agree, filter-contains, map-agree}
 use Rattle.pgp_lists.proofs.Ranges.{map_filter_range-passes, map_filter_range-fails}
@@ -91,7 +91,7 @@ current_first-continues h facts =
 
 -- ---- a step to another membership
 
-pub past_intervals-ends : {C : Type 0} (enough : C → List ℕ → Bool) (by_place : C → Bool) (cleans : List ℕ) (h : History C) (members : Membership) (facts : PrimaryFacts) → members ≢ h.current → past_intervals enough by_place cleans (stepped h members facts) ≡ past_intervals enough by_place cleans h ++ current_ending enough by_place cleans h facts ∷ []
+pub past_intervals-ends : {C : Type 0} (enough : C → List ℕ → Bool) (by_place : C → Bool) (cleans : List ℕ) (h : History C) (members : Membership) (facts : PrimaryFacts) → members ≢ h.current → past_intervals enough by_place cleans (stepped h members facts) ≡ past_intervals enough by_place cleans h ++ ending_at enough by_place cleans h (h.first + last_place h) facts ∷ []
 past_intervals-ends enough by_place cleans h members facts differ =
     let after : History _ = stepped h members facts in
     let places = length_push h.lived (ended_state h facts) in
@@ -103,5 +103,3 @@ pub current_first-ends : {C : Type 0} (h : History C) (members : Membership) (fa
 current_first-ends h members facts differ =
     let after : History _ = stepped h members facts in
     grind (arith, length_push h.lived (ended_state h facts), opens_at-next after (last_place h), ends h members facts differ, opening_of-opens after (last_place h + 1))
-
-pub ruleset step_laws = (past_intervals-continues, current_first-continues, past_intervals-ends)

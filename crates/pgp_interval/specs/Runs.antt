@@ -54,8 +54,8 @@ past_intervals enough by_place cleans h = map (past_ending enough by_place clean
 abbrev pub current_first : {C : Type 0} → History C → ℕ
 current_first h = h.first + opening_of h (last_place h)
 
--- the current interval as a past one, where it ends with these facts
-abbrev pub current_ending : {C : Type 0} → (C → List ℕ → Bool) → (C → Bool) → List ℕ → History C → PrimaryFacts → Past
-current_ending enough by_place cleans h facts =
+-- the current interval as a past one, where it ends with this epoch and these facts
+abbrev pub ending_at : {C : Type 0} → (C → List ℕ → Bool) → (C → Bool) → List ℕ → History C → ℕ → PrimaryFacts → Past
+ending_at enough by_place cleans h last facts =
     let ended : EpochState = record { members = h.current; facts = facts } in
-    past_of (enough h.code) (by_place h.code) cleans (current_first h) (h.first + last_place h) ended
+    past_of (enough h.code) (by_place h.code) cleans (current_first h) last ended

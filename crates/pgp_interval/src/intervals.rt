@@ -1,6 +1,6 @@
 ghost use Rattle.std.specs.Prelude.{◌≡◌, ℕ, ◌+◌, ◌<◌, ◌≤◌, List, [], ◌∷◌, ◌++◌, length, slice_get, Some, IfOk, IfNone, IfSome, IsSomeAnd, OnOk, OnErr, false};
 ghost use Rattle.pgp_ids.specs.declared.history.PrimaryFacts.{PrimaryFacts as Facts};
-ghost use Rattle.pgp_interval.specs.History.{History, begun, stepped, stayed};
+ghost use Rattle.pgp_interval.specs.History.{History, begun, grown, stayed};
 ghost use Rattle.pgp_interval.specs.IntervalsOf.{IsIntervalsOf};
 ghost use Rattle.pgp_ids.specs.Past.{raised_at};
 ghost use Rattle.pgp_interval.specs.Runs.{past_intervals, current_first};
@@ -14,7 +14,7 @@ use std::alloc::{AllocError, Global};
 use std::marker::Model;
 use std::mem;
 
-/// The intervals of a placement group, of a pool with the code `R`, as its history grows by an epoch after another.
+/// The intervals of a placement group, of a pool with the code `R`, as its history grows.
 ///
 /// It keeps the past intervals and the current one, and nothing of single epochs. At any time an info can name an epoch
 /// in which the group was clean (`clean`).
@@ -76,20 +76,20 @@ impl<R: Recoverable> Intervals<R> {
         }
     }
 
-    /// The epoch after the current one, with its membership.
+    /// A later epoch, with its membership. The epochs that it passes over have the membership of the current one.
     ///
     /// `facts` are those of the primary that was acting until now, in the map of the epoch that was current: they
-    /// complete that epoch. After an error the intervals are as before.
+    /// complete that epoch and those passed over. After an error the intervals are as before. Where `epoch` isn't later than the
+    /// current one, nothing is promised of them.
     pub fn step(
         &mut self,
         epoch: Epoch,
         members: Membership,
         facts: PrimaryFacts,
     ) -> Result<(), AllocError>
-        requires { epoch ≡ self.old.last + 1 }
-        ensures ok { OnOk result ((h : History R) (cleans : List ℕ)
-            → IsIntervalsOf R.enough R.by_place h cleans self.old
-            → IsIntervalsOf R.enough R.by_place (stepped h members facts) cleans self.new) }
+        ensures ok { OnOk result ((h : History R) (cleans : List ℕ) (passed : ℕ)
+            → IsIntervalsOf R.enough R.by_place h cleans self.old → epoch ≡ self.old.last + passed + 1
+            → IsIntervalsOf R.enough R.by_place (grown h passed members facts) cleans self.new) }
         ensures err { OnErr result (self.new ≡ self.old) }
     {
         if !is_same(&self.current, &members) {
@@ -98,7 +98,7 @@ impl<R: Recoverable> Intervals<R> {
                 members: mem::replace(&mut self.current, members),
                 facts,
             };
-            let past = past_of(&self.code, self.first, self.last, ended, self.clean);
+            let past = past_of(&self.code, self.first, epoch.before(), ended, self.clean);
             self.past.push_reserved(past);
             self.first = epoch;
             self.clean = false;

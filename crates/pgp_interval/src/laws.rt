@@ -3,8 +3,8 @@ ghost use Rattle.std.specs.Prelude.{◌≡◌, ◌≢◌, ℕ, ◌+◌, ◌↔�
 ghost use Rattle.pgp_ids.specs.declared.history.PrimaryFacts.{PrimaryFacts};
 ghost use Rattle.pgp_ids.specs.declared.membership.Membership.{Membership};
 ghost use Rattle.pgp_interval.specs.SameMembers.{is_same};
-ghost use Rattle.pgp_interval.specs.History.{History, begun, stepped, last_place};
-ghost use Rattle.pgp_interval.specs.Runs.{past_intervals, current_first, current_ending};
+ghost use Rattle.pgp_interval.specs.History.{History, begun, grown, last_place};
+ghost use Rattle.pgp_interval.specs.Runs.{past_intervals, current_first, ending_at};
 ghost use Rattle.pgp_interval.specs.Raised.{raised};
 ghost use Rattle.pgp_interval.specs.Interval.{IsInterval, EachIsOver, HasEachOver, LieEndToEnd};
 ghost use Rattle.pgp_interval.specs.Examples.{both, both_needed, alone, known_up_to, two_epochs_then, ended_at_2};
@@ -41,21 +41,21 @@ pub fn intervals_lie_end_to_end<R: Recoverable>()
         → LieEndToEnd h h.first (past_intervals R.enough R.by_place cleans h) }
 {}
 
-/// A step to the same membership continues the current interval. A step to another one makes a past interval of it, and
-/// opens the next. The past intervals stay as they were.
-#[tactic(auto, using(crate::proofs::StepLemmas::step_laws))]
-pub fn a_step_continues_or_ends_the_current_interval<R: Recoverable>()
-    ensures continues { (h : History R) (cleans : List ℕ) (facts : PrimaryFacts)
-        → past_intervals R.enough R.by_place cleans (stepped h h.current facts)
+/// A later epoch of the same membership continues the current interval. One of another makes a past interval of it, which ends
+/// just before, and opens the next. The past intervals stay as they were.
+#[tactic(auto, using(crate::proofs::GrownLemmas::grown_laws))]
+pub fn a_later_epoch_continues_or_ends_the_current_interval<R: Recoverable>()
+    ensures continues { (h : History R) (cleans : List ℕ) (passed : ℕ) (facts : PrimaryFacts)
+        → past_intervals R.enough R.by_place cleans (grown h passed h.current facts)
         ≡ past_intervals R.enough R.by_place cleans h }
-    ensures continues_from { (h : History R) (facts : PrimaryFacts)
-        → current_first (stepped h h.current facts) ≡ current_first h }
-    ensures ends { (h : History R) (cleans : List ℕ) (members : Membership) (facts : PrimaryFacts)
-        → members ≢ h.current → past_intervals R.enough R.by_place cleans (stepped h members facts)
+    ensures continues_from { (h : History R) (passed : ℕ) (facts : PrimaryFacts)
+        → current_first (grown h passed h.current facts) ≡ current_first h }
+    ensures ends { (h : History R) (cleans : List ℕ) (passed : ℕ) (members : Membership) (facts : PrimaryFacts)
+        → members ≢ h.current → past_intervals R.enough R.by_place cleans (grown h passed members facts)
         ≡ past_intervals R.enough R.by_place cleans h
-        ++ current_ending R.enough R.by_place cleans h facts ∷ [] }
-    ensures opens_at { (h : History R) (members : Membership) (facts : PrimaryFacts)
-        → members ≢ h.current → current_first (stepped h members facts) ≡ h.first + last_place h + 1 }
+        ++ ending_at R.enough R.by_place cleans h (h.first + last_place h + passed) facts ∷ [] }
+    ensures opens_at { (h : History R) (passed : ℕ) (members : Membership) (facts : PrimaryFacts)
+        → members ≢ h.current → current_first (grown h passed members facts) ≡ h.first + last_place h + passed + 1 }
 {}
 
 /// More epochs in which the group was clean raise flags of past intervals. They lower none, and change nothing else.

@@ -197,5 +197,5 @@ pub in_range : (last : Format) (d : Data) (command : Command) → command_in las
 in_range last d command is =
     let read : Op → Result Command LineFault = λ named. values_of named last (format_of last d) d in
     let ranged : IfOk (command_in last d) IsInRange =
-    past IsInRange (ok_or (op_in d) no_op) _ (λ named. known_ok (unknown_key_in (op_keys named) d) (read named) (values_ok named last (format_of last d) d)) in
+    past IsInRange (ok_or (op_in d) no_op) _ (λ named. known_ok (unknown_key_in (op_keys (read_in last (format_of last d)) named) d) (read named) (values_ok named last (format_of last d) d)) in
     rw is at ranged

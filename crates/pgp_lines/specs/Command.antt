@@ -64,7 +64,7 @@ known None read = read
 abbrev pub command_in : Format → Data → Result Command LineFault
 command_in last d = do
   named ← ok_or (op_in d) no_op
-  known (unknown_key_in (op_keys named) d) (values_of named last (format_of last d) d)
+  known (unknown_key_in (op_keys (read_in last (format_of last d)) named) d) (values_of named last (format_of last d) d)
 
 -- the value of a text, where the bytes are one
 abbrev pub data_of : List ℕ → Option Data

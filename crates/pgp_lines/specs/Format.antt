@@ -68,6 +68,12 @@ has_alg One Uniform = true
 has_alg One Weighed = true
 has_alg One Straw2 = false
 
+-- it has the key `after` of an incremental, which came with the third
+abbrev pub has_after : Format → Bool
+has_after Three = true
+has_after Two = false
+has_after One = false
+
 -- it has each of these pools
 abbrev pub has_pools : Format → List PoolSpec → Bool
 has_pools format pools = list_all (λ pool. has_kind format pool.kind) pools

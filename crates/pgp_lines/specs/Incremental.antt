@@ -1,5 +1,5 @@
 -- The line of a map incremental, in this project's own format over JSON.
-use Rattle.std.specs.Prelude.{ℕ, List, [], codes, Option, None, Result, Ok}
+use Rattle.std.specs.Prelude.{ℕ, ◌-◌, List, [], codes, Option, Some, None, option_map, unwrap_or, Result, Ok}
 use Rattle.serde_json.specs.Data.{Data}
 use Rattle.pgp_ids.specs.declared.incremental.Incremental.{Incremental}
 use Rattle.pgp_lines.specs.LineFault.{LineFault, ◌>>=◌}
@@ -14,6 +14,7 @@ use Rattle.pgp_lines.specs.declared.command.format.Format.{Format}
 -- an incremental that changes nothing
 abbrev pub no_change : Incremental
 no_change = record {
+  after = 0;
   epoch = 0;
   up = [];
   down = [];
@@ -31,16 +32,21 @@ no_change = record {
 abbrev pub list_at : {A : Type 0} → List ℕ → (Data → Option A) → List A → Data → Result (List A) LineFault
 list_at key shape absent d = optional key (list_of shape) absent d
 
--- with the tree, the epoch and the devices that go, in a line of this version
-abbrev pub with_down : Format → Incremental → Data → Result Incremental LineFault
-with_down format inc d = do
+-- the epoch of the map that is changed, where the line names one
+abbrev pub after_in : Data → Option (Option ℕ)
+after_in d = option_map Some (word_in d)
+
+-- With the tree, the epochs and the devices that go, in a line of this version. Where it names no map that it changes, that is the one of the
+-- epoch before its own.
+abbrev pub with_down : Format → Option ℕ → Incremental → Data → Result Incremental LineFault
+with_down format after inc d = do
   crush ← optional (codes "crush") tree_in inc.crush d
   known ← judged_at (codes "crush") (has_tree format crush)
   down ← list_at (codes "down") osd_in inc.down d
   epoch ← required (codes "epoch") word_in d
   gone ← list_at (codes "gone") osd_in inc.gone d
   lost ← list_at (codes "lost") device_epoch_in inc.lost d
-  Ok (record inc { crush = crush; down = down; epoch = epoch; gone = gone; lost = lost })
+  Ok (record inc { after = unwrap_or after (epoch - 1); crush = crush; down = down; epoch = epoch; gone = gone; lost = lost })
 
 -- with pools and groups, in a line of this version
 abbrev pub with_pools : Format → Incremental → Data → Result Incremental LineFault
@@ -63,7 +69,8 @@ with_up format inc d = do
 -- with all parts of a line
 abbrev pub with_parts : Format → Option Format → Incremental → Data → Result Incremental LineFault
 with_parts last format inc d = do
-  down ← with_down (read_in last format) inc d
+  after ← optional (codes "after") after_in None d
+  down ← with_down (read_in last format) after inc d
   pools ← with_pools (read_in last format) down d
   with_up format pools d
 

@@ -4,6 +4,8 @@ use Rattle.std.specs.Str.{bytes_eq}
 use Rattle.serde_json.specs.Data.{Data}
 use Rattle.serde_json.specs.Find.{as_str}
 use Rattle.pgp_lines.specs.Shapes.{field}
+use Rattle.pgp_lines.specs.Format.{has_after}
+use Rattle.pgp_lines.specs.declared.command.format.Format.{Format}
 use Rattle.pgp_lines.specs.declared.command.op.Op.{Op}
 use Rattle.pgp_lines.specs.declared.command.op.Op.TheVariants as op
 
@@ -32,12 +34,9 @@ op_name op.Trace = codes "trace"
 abbrev pub op_in : Data → Option Op
 op_in d = option_and_then op_named (field (codes "op") as_str d)
 
--- the keys that its line may have
-abbrev pub op_keys : Op → List (List ℕ)
-op_keys op.Ask = codes "op" ∷ codes "pg" ∷ codes "v" ∷ []
-op_keys op.Close = codes "op" ∷ codes "v" ∷ []
-op_keys op.Entries = codes "from" ∷ codes "log" ∷ codes "op" ∷ codes "pg" ∷ codes "stamp" ∷ codes "v" ∷ []
-op_keys op.Inc =
+-- the keys that the line of an incremental may have in each version
+abbrev pub inc_keys : List (List ℕ)
+inc_keys =
     codes "crush"
     ∷ codes "down"
     ∷ codes "epoch"
@@ -52,7 +51,14 @@ op_keys op.Inc =
     ∷ codes "v"
     ∷ codes "weight"
     ∷ []
-op_keys op.Info =
+
+-- the keys that its line may have, where they are read in this version
+abbrev pub op_keys : Format → Op → List (List ℕ)
+op_keys format op.Ask = codes "op" ∷ codes "pg" ∷ codes "v" ∷ []
+op_keys format op.Close = codes "op" ∷ codes "v" ∷ []
+op_keys format op.Entries = codes "from" ∷ codes "log" ∷ codes "op" ∷ codes "pg" ∷ codes "stamp" ∷ codes "v" ∷ []
+op_keys format op.Inc = if has_after format then codes "after" ∷ inc_keys else inc_keys
+op_keys format op.Info =
     codes "complete"
     ∷ codes "from"
     ∷ codes "history_les"
@@ -65,5 +71,5 @@ op_keys op.Info =
     ∷ codes "stamp"
     ∷ codes "v"
     ∷ []
-op_keys op.Locate = codes "name" ∷ codes "op" ∷ codes "pool" ∷ codes "v" ∷ []
-op_keys op.Trace = codes "code" ∷ codes "epochs" ∷ codes "op" ∷ codes "v" ∷ []
+op_keys format op.Locate = codes "name" ∷ codes "op" ∷ codes "pool" ∷ codes "v" ∷ []
+op_keys format op.Trace = codes "code" ∷ codes "epochs" ∷ codes "op" ∷ codes "v" ∷ []

@@ -1,5 +1,5 @@
 -- The lines of the worked laws, and what they say.
-use Rattle.std.specs.Prelude.{ℕ, pos, negsuc, List, [], ◌∷◌, ◌++◌, replicate, codes, true, false, Option, Some, None, ⊤, refl}
+use Rattle.std.specs.Prelude.{ℕ, ◌-◌, pos, negsuc, List, [], ◌∷◌, ◌++◌, replicate, codes, true, false, Option, Some, None, ⊤, refl}
 use Rattle.std.specs.Fmt.{digits}
 use Rattle.std.specs.Str.{is_utf8, chars}
 use Rattle.serde_json.proofs.OnLiterals.{serde_json_on_literals}
@@ -80,9 +80,14 @@ grouped_trace groups = Trace (Grouped groups) (epoch_state (None ∷ Some 3 ∷ 
 abbrev pub inc_with : List ℕ → List ℕ
 inc_with keys = codes "{\"op\":\"inc\",\"epoch\":1," ++ keys ++ codes "}"
 
+-- an incremental of version 3 with these keys
+abbrev pub inc_of_three : List ℕ → List ℕ
+inc_of_three keys = codes "{\"op\":\"inc\",\"v\":3," ++ keys ++ codes "}"
+
 -- an incremental that does nothing
 abbrev pub empty_inc : ℕ → Incremental
 empty_inc epoch = record {
+  after = epoch - 1;
   epoch = epoch;
   up = [];
   down = [];

@@ -31,7 +31,7 @@ mod value;
 use bumpalo::Bump;
 use faults::unknown_key_fault;
 pub use format::Format;
-use format::read_format;
+use format::{read_format, read_in};
 use json::{Error, Scratch, Tape};
 use objects::unknown_key;
 pub use op::Op;
@@ -218,10 +218,11 @@ fn read_command(alloc: Global, value: &Value<'_, '_>, last: Format) -> Result<Co
     let Some(op) = read_op(value) else {
         return Err(TextFault::NoOp);
     };
-    if let Some(key) = unknown_key(value, op.keys()) {
+    let format = read_format(value, last);
+    if let Some(key) = unknown_key(value, op.keys(read_in(last, format))) {
         return Err(unknown_key_fault(alloc, key));
     }
-    op.read(alloc, value, last, read_format(value, last))
+    op.read(alloc, value, last, format)
 }
 
 /// The operation that the text at `op` names.

@@ -1,5 +1,5 @@
 -- A group comes into a log, and is absent before.
-use Rattle.pgp_log.proofs.Common.{◌≡◌, ℕ, ◌<◌, List, [], ◌∷◌, ◌++◌, Option, Some, None, Bool, true, false, nat_eq, nat_lt, option_map, length, length-append, refl, ap, sym, ◌∙◌, subst, arith, flat_map, option_map_or, false_from_ne_true, true_from_ne_false, true≢false, filter_map-append, Entry, Incremental, PgId, PoolSizes, PoolSpec, Refusal, checked-has_group, are_checked, HasGroup, epoch, map_fault, then_with, IsMapOf, with_sizes, has_group, is_same_group, OsdMap, infos-other, infos-same, reports-other, reports-same, epoch-snoc, has_group-grows, history-last, made_at-made, next_epoch, told-stays, inc_of, incs_of, group_history, makes, made_at, IsGroupOf, IsSilent, Follows, Group, entry_fault, HasInc, has_unknown_group, report_fault, same_group}
+use Rattle.pgp_log.proofs.Common.{◌≡◌, ℕ, ◌<◌, List, [], ◌∷◌, ◌++◌, Option, Some, None, Bool, true, false, nat_eq, nat_lt, option_map, length, length-append, refl, ap, sym, ◌∙◌, subst, arith, flat_map, option_map_or, false_from_ne_true, true_from_ne_false, true≢false, filter_map-append, Entry, Incremental, PgId, PoolSizes, PoolSpec, Refusal, checked-has_group, are_checked, HasGroup, epoch, map_fault, then_with, IsMapOf, with_sizes, has_group, is_same_group, OsdMap, infos-other, infos-same, reports-other, reports-same, epoch-snoc, has_group-grows, history-last, made_at-made, later_epoch, told-stays, inc_of, incs_of, group_history, makes, made_at, IsGroupOf, IsSilent, Group, entry_fault, HasInc, has_unknown_group, report_fault, same_group}
 use Rattle.pgp_ids.specs.declared.entry.Entry.TheVariants as entry
 use Rattle.pgp_ids.specs.declared.member.Member.{Member}
 use Rattle.pgp_map.specs.Last.{last_where}
@@ -79,17 +79,11 @@ absent-other log new pg none fine absent = record {
 
 -- ---- the group is there
 
--- the map that an incremental makes follows that of the group
-pub next-follows : (log : List Entry) (pg : PgId) (inc : Incremental) (group : Group) (map : OsdMap) → IsGroupOf log pg group → map_fault (incs_of log) inc ≡ None
-    → are_checked (then_with (incs_of log) inc) ≡ true → IsMapOf (then_with (incs_of log) inc) map → Follows group map
-next-follows log pg inc group map is fine checked made =
-    let there : HasGroup map pg = checked-has_group (then_with (incs_of log) inc) map pg made checked (has_group-grows (incs_of log) inc pg is.history fine is.history_is) in
-    record {
-      incs = then_with (incs_of log) inc;
-      is = made;
-      there = subst (HasGroup map) (sym is.keeps.pg_is) there;
-      next = omega (arith, epoch-snoc (incs_of log) inc, next_epoch (incs_of log) inc fine, history-last (incs_of log) pg is.history is.numbered is.history_is, is.keeps.intervals_are.last_is);
-    }
+-- the map that an incremental makes has the group
+pub next-there : (log : List Entry) (pg : PgId) (inc : Incremental) (group : Group) (map : OsdMap) → IsGroupOf log pg group → map_fault (incs_of log) inc ≡ None
+    → are_checked (then_with (incs_of log) inc) ≡ true → IsMapOf (then_with (incs_of log) inc) map → HasGroup map pg
+next-there log pg inc group map is fine checked made =
+    checked-has_group (then_with (incs_of log) inc) map pg made checked (has_group-grows (incs_of log) inc pg is.history fine is.history_is)
 
 -- ---- a log with an incremental
 

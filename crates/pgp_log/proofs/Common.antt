@@ -13,15 +13,15 @@ pub use Rattle.std.specs.List.{Contains, flat_map, list_any}
 pub use Rattle.std.specs.Option.{option_map_or, option_or}
 pub use Rattle.std.specs.Prelude.{◌==◌}
 pub use Rattle.pgp_group.proofs.GroupLemmas.{infos-other, infos-same, reports-other, reports-same}
-pub use Rattle.pgp_group.proofs.GrowthLemmas.{epoch-snoc, has_group-grows, history-last, made_at-made, next_epoch, told-stays, numbered}
+pub use Rattle.pgp_group.proofs.GrowthLemmas.{epoch-snoc, has_group-grows, history-last, made_at-made, later_epoch, told-stays, epochs_ascend}
 pub use Rattle.pgp_group.proofs.LaterLemmas.{is_after, log-in}
 pub use Rattle.pgp_group.proofs.Lists.{none-append, none-narrower}
 pub use Rattle.pgp_group.proofs.ReachingLemmas.{untouched-unmoved}
 pub use Rattle.pgp_group.proofs.UntoldLemmas.{facts-stay, unplaced}
 pub use Rattle.pgp_group.specs.Entries.{inc_of, incs_of}
-pub use Rattle.pgp_group.specs.GroupHistory.{group_history, made_at, makes, primary_facts}
+pub use Rattle.pgp_group.specs.GroupHistory.{EpochsAscend, group_history, made_at, makes, primary_facts}
 pub use Rattle.pgp_group.specs.GroupLog.{group_in, group_with}
-pub use Rattle.pgp_group.specs.GroupOf.{Follows, IsGroupOf, IsSilent, TellsNothingAhead}
+pub use Rattle.pgp_group.specs.GroupOf.{IsGroupOf, IsSilent, TellsNothingAhead}
 pub use Rattle.pgp_group.specs.Reckoning.{IsRemembered, TakesNothingAway, WentReadWrite}
 pub use Rattle.pgp_group.specs.Touched.{changed_devices, changes_pool, changes_temp, is_touched, may_lie_on, may_move, moves_all, turned_devices}
 pub use Rattle.pgp_group.specs.View.{view_of}
@@ -41,7 +41,7 @@ pub use Rattle.pgp_lists.proofs.Bools.{and3_parts}
 pub use Rattle.pgp_lists.proofs.Lists.{any-mapped, get-append}
 pub use Rattle.pgp_lists.proofs.Options.{if_none, map_some, none_is, some-weaker, some_mapped}
 pub use Rattle.pgp_log.specs.Fits.{entry_fault, fits, full_fault, is_close, is_closed}
-pub use Rattle.pgp_log.specs.Log.{EndsWithClose, EpochsCount, HasInc, epoch_of, is_accepted, is_legal, is_taken_at}
+pub use Rattle.pgp_log.specs.Log.{EndsWithClose, HasInc, epoch_of, is_accepted, is_legal, is_taken_at}
 pub use Rattle.pgp_log.specs.MapBefore.{IsMapBefore, makes_heavier, renamed_devices, with_facts}
 pub use Rattle.pgp_log.specs.RawSets.{AreRawSets, IsRawSet, moves_any}
 pub use Rattle.pgp_log.specs.ReportFault.{has_bad_info, has_future_stamp, has_unknown_group, has_unknown_member, info_fault, report_fault}

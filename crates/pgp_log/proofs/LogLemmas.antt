@@ -1,5 +1,5 @@
 -- What holds of legal logs.
-use Rattle.pgp_log.proofs.Common.{◌≡◌, ℕ, ◌<◌, ◌≤◌, List, [], ◌∷◌, ◌++◌, Option, None, is_none, true, false, length, take, refl, ap, ap₂, sym, ◌∙◌, arith, length-append, option_map_or, take-append-le, get-append, none_is, Entry, are_checked, incs_of, fits, is_close, is_closed, is_accepted, is_taken_at, is_legal, EndsWithClose, EpochsCount, numbered}
+use Rattle.pgp_log.proofs.Common.{◌≡◌, ℕ, ◌<◌, ◌≤◌, List, [], ◌∷◌, ◌++◌, Option, None, is_none, true, false, length, take, refl, ap, ap₂, sym, ◌∙◌, arith, length-append, option_map_or, take-append-le, get-append, none_is, Entry, are_checked, incs_of, fits, is_close, is_closed, is_accepted, is_taken_at, is_legal, EndsWithClose, EpochsAscend, epochs_ascend}
 use Rattle.pgp_lists.proofs.Taken.{taken-front, taken-induction, taken-last, taken-more, taken-take}
 use Rattle.pgp_ids.specs.declared.entry.Entry.TheVariants as entry
 use Rattle.pgp_log.proofs.TakeLemmas.{checked-push, closed-push, fits-faultless, fits-open_log, room-push}
@@ -36,8 +36,8 @@ pub legal-checked : (log : List Entry) → is_legal log ≡ true → are_checked
 legal-checked = legal-induction (λ log. are_checked (incs_of log) ≡ true) refl
     (λ log new fit before. checked-push log new before (fits-faultless log new fit))
 
-pub legal-counts : (log : List Entry) → is_legal log ≡ true → EpochsCount log
-legal-counts log legal = numbered (incs_of log) (legal-checked log legal)
+pub legal-ascends : (log : List Entry) → is_legal log ≡ true → EpochsAscend (incs_of log)
+legal-ascends log legal = epochs_ascend (incs_of log) (legal-checked log legal)
 
 -- ---- its length
 

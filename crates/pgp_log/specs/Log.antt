@@ -1,6 +1,5 @@
 -- The log of all that monitor and devices told, and its fronts.
-use Rattle.std.specs.Prelude.{map, ◌≡◌, ℕ, ◌<◌, List, [], ◌∷◌, length, ◌++◌, Bool, is_none, take}
-use Rattle.std.specs.List.{range_with_len}
+use Rattle.std.specs.Prelude.{◌≡◌, ℕ, ◌<◌, List, [], ◌∷◌, length, ◌++◌, Bool, is_none, take}
 use Rattle.pgp_ids.specs.declared.entry.Entry.{Entry}
 use Rattle.pgp_ids.specs.declared.entry.Entry.TheVariants as entry
 use Rattle.pgp_lists.specs.Taken as taken
@@ -41,7 +40,3 @@ is_legal log = taken.are_taken is_accepted log
 pub record EndsWithClose (log : List Entry) : Type 0 where
   pub before : List Entry
   pub whole : log ≡ before ++ entry.Close ∷ []
-
--- the epochs of the log's incrementals are 1, 2, and so on
-abbrev pub EpochsCount : List Entry → Type 0
-EpochsCount log = map (λ inc. inc.epoch) (incs_of log) ≡ range_with_len 1 (length (incs_of log))

@@ -67,7 +67,7 @@ impl Judge {
     }
 
     /// Why the log doesn't take the entry, if it doesn't. `Memory` comes only where there was none to look at an incremental
-    /// of an open log, of the next epoch, that has a long list or whose tree alone may have a fault.
+    /// of an open log that changes its map, and that has a pg_temp list or whose tree alone may have a fault.
     pub fn fits(&self, entry: &Entry) -> Result<(), Refusal>
         ensures ok { IsOk result → OfItsLog self.now (λ log. fits log entry.now ≡ None) }
         ensures err { IfErr result (λ refusal. refusal ≢ Memory → OfItsLog self.now (λ log. fits log entry.now ≡ Some refusal)) }

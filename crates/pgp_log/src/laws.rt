@@ -3,7 +3,8 @@
 
 pub mod reckoning;
 
-ghost use Rattle.std.specs.Prelude.{◌≡◌, ℕ, ◌<◌, ◌≤◌, List, [], ◌∷◌, ◌++◌, length, Some, None, true, false, option_map, codes};
+ghost use Rattle.std.specs.Prelude.{◌≡◌, ℕ, ◌<◌, ◌≤◌, ◌-◌, All, map, List, [], ◌∷◌, ◌++◌, length, Some, None, true, false, option_map, codes};
+ghost use Rattle.std.specs.List.{range_with_len};
 ghost use Rattle.pgp_ids.specs.declared.entry.Entry.{Entry};
 ghost use Rattle.pgp_ids.specs.declared.entry.Entry.TheVariants as entry;
 ghost use Rattle.pgp_ids.specs.declared.pg_id.PgId.{PgId};
@@ -14,11 +15,12 @@ ghost use Rattle.pgp_sets.specs.Examples.{copies_group, copies_on_three, resize}
 ghost use Rattle.pgp_map.specs.Checked.{are_checked};
 ghost use Rattle.pgp_sets.specs.Sets.{membership};
 ghost use Rattle.pgp_group.specs.Entries.{incs_of};
+ghost use Rattle.pgp_group.specs.GroupHistory.{EpochsAscend};
 ghost use Rattle.pgp_group.specs.Touched.{is_touched, view_at};
 ghost use Rattle.pgp_group.specs.View.{scratch};
 ghost use Rattle.pgp_group.specs.Examples.{at, in_slot, copy, copy_up_to, shard, known_up, maps, on_three, two_shards_down, entries_of_first, modify, until_serving, serving_again, others_serve};
 ghost use Rattle.pgp_log.specs.Fits.{fits, entry_fault, is_close, is_closed};
-ghost use Rattle.pgp_log.specs.Log.{epoch_of, is_taken_at, is_legal, EndsWithClose, EpochsCount};
+ghost use Rattle.pgp_log.specs.Log.{epoch_of, is_taken_at, is_legal, EndsWithClose};
 ghost use Rattle.pgp_log.specs.Locate.{group_of_object};
 
 use pgp_group::laws::touched as group_laws;
@@ -52,9 +54,12 @@ pub fn legal_logs_grow_by_entries_that_fit()
         → is_legal (log ++ new ∷ []) ≡ true }
 {}
 
-/// The incrementals of a legal log have the epochs 1, 2, and so on, so that those up to an epoch are the first ones.
+/// Each incremental of a legal log leads to a later epoch than those before it, so that those up to an epoch are the first ones. Where
+/// each leads to the next epoch, these are 1, 2, and so on.
 pub fn epochs_of_a_legal_log()
-    ensures { (log : List Entry) → is_legal log ≡ true → EpochsCount log }
+    ensures ascend { (log : List Entry) → is_legal log ≡ true → EpochsAscend (incs_of log) }
+    ensures counts { (log : List Entry) → is_legal log ≡ true → All (λ inc. inc.after ≡ inc.epoch - 1) (incs_of log)
+        → map (λ inc. inc.epoch) (incs_of log) ≡ range_with_len 1 (length (incs_of log)) }
 {}
 
 /// A legal log is of checked incrementals, and has at most 65,536 entries: 65,535 and a Close.
@@ -82,10 +87,11 @@ pub fn untouched_groups_stay_as_they_were()
     legal_logs_are_checked_and_short();
 }
 
-/// The first incremental leads to epoch 1.
+/// The first incremental changes the map of epoch 0.
 pub fn first_incremental()
     ensures gap { fits [] (entry.Inc (empty_step 2)) ≡ Some refusal.EpochGap }
     ensures next { fits [] (entry.Inc (empty_step 1)) ≡ None }
+    ensures passes { fits [] (entry.Inc (record (empty_step 2) { after = 0 })) ≡ None }
 {}
 
 /// A device is known to have been up through the incremental's own epoch at most, and through no earlier one than before.

@@ -35,17 +35,17 @@ up_after incs inc osd = joined (boots osd inc) (takes_down osd inc) (destroys os
     joined : (b t g u : Bool) → (b || not (t || g) && u) ≡ cond (b || t || g) b u
     joined b t g u = grind arith
 
--- an incremental of another epoch is refused for it
+-- an incremental that changes another map is refused for it
 pub gap-found : (incs : List Incremental) (inc : Incremental) → has_epoch_gap incs inc ≡ true → map_fault incs inc ≡ Some EpochGap
 unfolding map_fault
 gap-found incs inc gap = rw gap refl
 
--- one of the next epoch is refused for what is in it twice
+-- one that changes this map is refused for what is in it twice
 pub twice-found : (incs : List Incremental) (inc : Incremental) → has_epoch_gap incs inc ≡ false → has_twice inc ≡ true → map_fault incs inc ≡ Some Twice
 unfolding map_fault
 twice-found incs inc next twice = rw (next, twice) refl
 
--- the first of the findings is the first fault of an incremental of the next epoch in which nothing is twice, or the tree's where there is none
+-- the first of the findings is the first fault of an incremental that changes this map in which nothing is twice, or the tree's where there is none
 pub fault-found : (incs : List Incremental) (inc : Incremental) (f : Findings) (found : Option MapFault) → has_epoch_gap incs inc ≡ false → has_twice inc ≡ false
     → AreFindings incs inc f → first_of f ≡ found → map_fault incs inc ≡ option_or found (given_fault inc.crush)
 unfolding map_fault

@@ -15,6 +15,7 @@ use Rattle.pgp_ids.specs.declared.pool.PoolSpec.{PoolSpec}
 abbrev pub empty_step : ℕ → Incremental
 empty_step epoch =
     record {
+      after = epoch - 1;
       epoch = epoch;
       up = [];
       down = [];

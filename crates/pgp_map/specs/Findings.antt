@@ -1,4 +1,4 @@
--- The tests that an incremental of the next epoch fails in which nothing is twice, its tree aside.
+-- The tests that an incremental that changes this map fails, in which nothing is twice, its tree aside.
 use Rattle.std.specs.Prelude.{◌≡◌, List, false, Option, Some, None, if◌then◌else◌}
 use Rattle.pgp_ids.specs.declared.incremental.Incremental.{Incremental}
 use Rattle.pgp_map.specs.declared.fault.MapFault.{MapFault}

@@ -25,9 +25,9 @@ use Rattle.pgp_map.specs.Pools.{pool, group_count, is_same_group}
 abbrev pub then_with : List Incremental → Incremental → List Incremental
 then_with incs inc = incs ++ inc ∷ []
 
--- the incremental's epoch isn't the one after the map's
+-- the incremental changes a map of another epoch, or doesn't lead to a later one
 abbrev pub has_epoch_gap : List Incremental → Incremental → Bool
-has_epoch_gap incs inc = not (nat_eq inc.epoch (epoch incs + 1))
+has_epoch_gap incs inc = not (nat_eq inc.after (epoch incs) && nat_lt inc.after inc.epoch)
 
 -- a device is twice in up, down and gone together, or in one of weight, up_thru and lost; or a pool in pools and sizes
 -- together; or a group in temp. It is so also where both say the same.

@@ -15,7 +15,7 @@ is_filled xs = nat_lt 0 (length xs)
 abbrev pub has_bucket : Option (List BucketSpec) → Bool
 has_bucket crush = option_map_or is_filled crush false
 
--- Looking at the incremental after those before it may lack memory: its epoch is the next one; and it gives a pg_temp list,
+-- Looking at the incremental after those before it may lack memory: it changes their map; and it gives a pg_temp list,
 -- or its tree alone may have a fault.
 pub record MayLackMemory (incs : List Incremental) (inc : Incremental) : Type 0 where
   pub is_next : has_epoch_gap incs inc ≡ false

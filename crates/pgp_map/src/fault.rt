@@ -13,7 +13,7 @@ use std::fmt;
 /// [`check`](crate::OsdMap::check) can name no other refusal.
 #[derive(Clone, Copy, Debug, PartialEq, Eq)]
 pub enum MapFault {
-    /// Its epoch isn't the one after the map's.
+    /// It changes a map of another epoch, or leads to no later one.
     EpochGap,
     /// A device, pool or group is named twice where it may be named once.
     Twice,

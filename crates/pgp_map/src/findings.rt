@@ -5,7 +5,7 @@ ghost use Rattle.pgp_map.specs.Findings.{first_of};
 
 use super::fault::MapFault;
 
-/// The tests that an incremental of the next epoch fails in which nothing is twice, its tree aside.
+/// The tests that an incremental that changes this map fails, in which nothing is twice, its tree aside.
 #[derive(Clone, Copy)]
 pub(crate) struct Findings {
     pub unknown_device: bool,

@@ -25,13 +25,16 @@ ghost use Rattle.pgp_map.specs.Examples.{empty_step, boot, weighs, with_epoch, o
 ghost use Rattle.std.specs.List.{range_with_len};
 ghost use Rattle.std.specs.Option.{option_map_or};
 
-/// The first incremental leads to epoch 1.
+/// An incremental leads from the map's epoch to a later one, and may pass over some. The first one changes the map of epoch 0.
 #[tactic(auto, unfolding(crate::specs::MapFault::map_fault))]
 pub fn epochs_follow_each_other()
     ensures gap { map_fault [] (empty_step 2) ≡ Some EpochGap }
     ensures first { map_fault [] (empty_step 1) ≡ None }
     ensures again { map_fault one_up (empty_step 1) ≡ Some EpochGap }
     ensures first_of_all { map_fault one_up (boot 3 (0 ∷ 0 ∷ [])) ≡ Some EpochGap }
+    ensures passes { map_fault one_up (record (empty_step 4) { after = 1 }) ≡ None }
+    ensures of_another_map { map_fault one_up (record (empty_step 4) { after = 0 }) ≡ Some EpochGap }
+    ensures stands { map_fault one_up (record (empty_step 1) { after = 1 }) ≡ Some EpochGap }
 {}
 
 /// One incremental may boot a device and weigh it; a device that neither is there nor boots can't be weighed.
@@ -173,13 +176,14 @@ pub fn facts_outlive_a_device()
     ensures epoch { epoch made_again ≡ 5 }
 {}
 
-/// The map of an earlier epoch is that of the incrementals up to it.
+/// The map of an earlier epoch is that of the incrementals up to it, also where it was passed over.
 pub fn earlier_maps()
     ensures destroyed { exists (up_to 4 made_again) 0 ≡ false }
     ensures down { is_up (up_to 2 made_again) 0 ≡ false }
     ensures there { exists (up_to 2 made_again) 0 ≡ true }
     ensures booted { up_from (up_to 4 made_again) 0 ≡ 1 }
     ensures epoch { epoch (up_to 3 made_again) ≡ 3 }
+    ensures passed_over { up_to 3 (one_up ++ record (boot 4 (1 ∷ [])) { after = 1 } ∷ []) ≡ one_up }
 {}
 
 /// A pool has the sizes that it was given last, and a group the list that it was given last.

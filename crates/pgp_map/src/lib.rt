@@ -1,7 +1,7 @@
 //! The cluster map: which devices and pools there are and what holds of them, as map incrementals tell it.
 //!
-//! This layer decides which incrementals are taken, and what they make of the map. An incremental leads from one epoch to
-//! the next, and all its parts take effect together (Ceph's developer documentation on map epochs). [`OsdMap::check`]
+//! This layer decides which incrementals are taken, and what they make of the map. An incremental leads from the map's epoch
+//! to a later one, and all its parts take effect together (Ceph's developer documentation on map epochs). [`OsdMap::check`]
 //! answers the first fault of an incremental, in the order of [`MapFault`]; [`OsdMap::apply`] makes room, and then changes
 //! the map in place without taking memory; each reader gives a fact of the list of all incrementals that were applied, by
 //! the last that tells of the thing. The map takes memory for what was named and nothing else; no reader takes any.

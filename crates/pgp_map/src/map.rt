@@ -74,7 +74,7 @@ impl OsdMap {
     }
 
     /// Whether the incremental can be applied. It can't if it has a fault, of which the first in the order of [`MapFault`] is
-    /// answered; or there was no memory to look at it. Memory is taken only for an incremental of the next epoch: for its pg_temp
+    /// answered; or there was no memory to look at it. Memory is taken only for an incremental that changes this map: for its pg_temp
     /// lists, and for its tree where the rest has no fault. The map stays as it is.
     pub fn check(&self, inc: &Incremental) -> Result<(), MapFault>
         ensures ok { OnOk result (Says self.now (λ incs. map_fault incs inc.now ≡ None)) }
@@ -94,7 +94,7 @@ impl OsdMap {
         }
     }
 
-    /// The tests that the incremental of the next epoch fails in which nothing is twice, its tree aside.
+    /// The tests that an incremental that changes this map fails, in which nothing is twice, its tree aside.
     fn findings(&self, inc: &Incremental) -> Findings
         ensures { Says self.now (λ incs. AreFindings incs inc.now result) }
     {
@@ -111,11 +111,11 @@ impl OsdMap {
         }
     }
 
-    /// The incremental's epoch isn't the one after the map's.
+    /// The incremental changes a map of another epoch, or doesn't lead to a later one.
     fn has_epoch_gap(&self, inc: &Incremental) -> bool
         ensures { Says self.now (λ incs. result ≡ has_epoch_gap incs inc.now) }
     {
-        u64::from(inc.epoch.number()) != u64::from(self.epoch.number()) + 1
+        inc.after != self.epoch || inc.epoch <= inc.after
     }
 
     /// Down, gone, weight, up_thru or lost names a device that is absent and doesn't boot.

@@ -29,7 +29,7 @@ use Rattle.pgp_group.specs.Later.{IsAfter}
 use Rattle.pgp_group.specs.Peering.{past, prior}
 use Rattle.pgp_group.specs.Reckoning.{TakesNothingAway}
 use Rattle.pgp_group.proofs.DeviceLemmas.{last_where-later}
-use Rattle.pgp_group.proofs.GrowthLemmas.{epoch-snoc, next_epoch}
+use Rattle.pgp_group.proofs.GrowthLemmas.{epoch-snoc, later_epoch}
 use Rattle.pgp_group.proofs.LaterLemmas.{histories}
 use Rattle.pgp_group.proofs.Lists.{last_where-none}
 use Rattle.pgp_group.proofs.OpeningLemmas.{opened}
@@ -78,7 +78,7 @@ lost_at-within osd =
               let below : new.0.epoch ≤ inc.epoch = grind (arith, nat_tests) in
               omega (arith, lost_at-snoc incs inc osd, new.1.1, below, epoch-snoc incs inc)
           | inr none ↦
-              omega (arith, lost_at-snoc incs inc osd, told-old before inc.lost osd none, within, epoch-snoc incs inc, next_epoch incs inc fine)
+              omega (arith, lost_at-snoc incs inc osd, told-old before inc.lost osd none, within, epoch-snoc incs inc, later_epoch incs inc fine)
         ]
 
 -- ---- tests of lists
@@ -112,7 +112,7 @@ module _ (starts losses : List ℕ) (incs : List Incremental) (inc : Incremental
       not_below : (osd : ℕ) → nat_lt inc.epoch (lost_at incs osd) ≡ false
       not_below osd =
           let within : lost_at incs osd ≤ epoch incs = lost_at-within osd incs checked in
-          let next : inc.epoch ≡ epoch incs + 1 = next_epoch incs inc fine in
+          let next : epoch incs < inc.epoch = later_epoch incs inc fine in
           grind (arith, nat_tests)
 
   module _ (nothing : TakesNothingAway incs inc) (osd first : ℕ) (later : first < inc.epoch) where
@@ -162,7 +162,7 @@ brought_back starts losses g after inc is goes =
     let checked = front-checked (incs g) (inc ∷ []) hs.checked in
     let nothing : TakesNothingAway (incs g) inc = nothing-away starts losses (incs g) inc goes fine checked in
     let open' = opened g.pg (incs g) checked g.history hs.before in
-    let next : inc.epoch ≡ epoch (incs g) + 1 = next_epoch (incs g) inc fine in
+    let next : epoch (incs g) < inc.epoch = later_epoch (incs g) inc fine in
     down-after g after inc is nothing
     ∙ ap (λ (l : List Incremental). down_by g.history.code l (les g) (past g)) hs.incs_are
     ∙ any-agree

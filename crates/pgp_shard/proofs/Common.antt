@@ -15,14 +15,14 @@ pub use Rattle.std.specs.Option.{option_copied, option_eq, option_map_or}
 pub use Rattle.std.specs.Prelude.{alloc_error, slice_index}
 pub use Rattle.std.specs.Vec.{with_item}
 pub use Rattle.pgp_group.proofs.GroupLemmas.{IsGroupOf-other, infos-kept, infos-other, infos-same, names-kept, past-same, reports-kept, reports-other, reports-same}
-pub use Rattle.pgp_group.proofs.GrowthLemmas.{has_group-grows, unmade, numbered}
+pub use Rattle.pgp_group.proofs.GrowthLemmas.{has_group-grows, unmade, epochs_ascend}
 pub use Rattle.pgp_group.proofs.ReachingLemmas.{left-unmoved, lies-as-before, reached-now, reaches-next, untouched-unmoved}
 pub use Rattle.pgp_group.proofs.UntoldLemmas.{IsLeft, temp-same, unplaced}
 pub use Rattle.pgp_group.proofs.ViewLemmas.{history_there, scratch_there}
 pub use Rattle.pgp_group.specs.Entries.{inc_of, incs_of, infos_of, reports_of}
-pub use Rattle.pgp_group.specs.GroupHistory.{AreNumbered, group_facts, group_history, made_at, makes, primary_facts}
+pub use Rattle.pgp_group.specs.GroupHistory.{EpochsAscend, group_facts, group_history, made_at, makes, primary_facts}
 pub use Rattle.pgp_group.specs.GroupLog.{group_in, group_with}
-pub use Rattle.pgp_group.specs.GroupOf.{Follows, IsGroupOf, IsSilent}
+pub use Rattle.pgp_group.specs.GroupOf.{IsGroupOf, IsSilent}
 pub use Rattle.pgp_group.specs.Reaching.{reaching}
 pub use Rattle.pgp_group.specs.Touched.{changed_devices, changes_pool, changes_temp, has_osd, has_to_do_with, is_touched, may_lie_on, may_move, moves_all, names, view_at, turned_devices}
 pub use Rattle.pgp_group.specs.View.{scratch, view_of}

@@ -1,5 +1,5 @@
 -- What a shard keeps of its groups, as the log grows.
-use Rattle.pgp_shard.proofs.Common.{◌≡◌, ℕ, List, [], ◌∷◌, ◌++◌, true, false, Bor, Option, Some, None, IfSome, is_none, is_some, not, length, option_map, refl, sym, ap, ◌∙◌, subst, filter, option_copied, false_from_ne_true, true≢false, some_is, Entry, Incremental, Membership, PgId, Info, View, checked-more, are_checked, device, HasGroup, epoch, map_fault, then_with, IsMapOf, has_group, is_same_group, pool, temp, OsdMap, raw_set-stays, may_place_elsewhere, members_from_up, membership, raw_set_of, without_down, infos-kept, infos-other, infos-same, names-kept, past-same, reports-kept, reports-other, reports-same, IsGroupOf-other, has_group-grows, reached-now, history_there, inc_of, incs_of, infos_of, reports_of, AreNumbered, group_facts, group_history, made_at, IsGroupOf, IsSilent, Follows, group_with, reaching, is_touched, view_at, scratch, view_of, Group, MapBefore, fits, IsKeptOf, IsStep, IsViewOf, HasInc, is_legal, IsRawSet, KeptGroup, numbered}
+use Rattle.pgp_shard.proofs.Common.{◌≡◌, ℕ, List, [], ◌∷◌, ◌++◌, true, false, Bor, Option, Some, None, IfSome, is_none, is_some, not, length, option_map, refl, sym, ap, ◌∙◌, subst, filter, option_copied, false_from_ne_true, true≢false, some_is, Entry, Incremental, Membership, PgId, Info, View, checked-more, are_checked, device, HasGroup, epoch, map_fault, then_with, IsMapOf, has_group, is_same_group, pool, temp, OsdMap, raw_set-stays, may_place_elsewhere, members_from_up, membership, raw_set_of, without_down, infos-kept, infos-other, infos-same, names-kept, past-same, reports-kept, reports-other, reports-same, IsGroupOf-other, has_group-grows, reached-now, history_there, inc_of, incs_of, infos_of, reports_of, EpochsAscend, group_facts, group_history, made_at, IsGroupOf, IsSilent, group_with, reaching, is_touched, view_at, scratch, view_of, Group, MapBefore, fits, IsKeptOf, IsStep, IsViewOf, HasInc, is_legal, IsRawSet, KeptGroup, epochs_ascend}
 use Rattle.pgp_ids.specs.declared.entry.Entry.TheVariants as entry
 use Rattle.pgp_ids.specs.declared.history.PrimaryFacts.{PrimaryFacts}
 use Rattle.pgp_ids.specs.declared.report.Report.{Report}
@@ -7,7 +7,7 @@ use Rattle.pgp_group.proofs.SameViewLemmas.{view-same}
 use Rattle.pgp_group.proofs.UntouchedLemmas.{Stays, untouched-stays}
 use Rattle.pgp_log.proofs.LogLemmas.{legal-checked, legal-induction}
 use Rattle.pgp_log.proofs.RawSetLemmas.{filtered}
-use Rattle.pgp_log.proofs.ComingLemmas.{IsAbsent, absent-other, inc-of-group, made-now, next-follows, silent-inc}
+use Rattle.pgp_log.proofs.ComingLemmas.{IsAbsent, absent-other, inc-of-group, made-now, next-there, silent-inc}
 use Rattle.pgp_log.proofs.TakeLemmas.{faultless-inc, fits-faultless, incs-inc, incs-other}
 
 -- ---- a step to the next map
@@ -21,14 +21,10 @@ step-checked log inc before after step = checked-more (incs_of log) inc (legal-c
 pub grown : (log : List Entry) (inc : Incremental) → incs_of (log ++ entry.Inc inc ∷ []) ≡ then_with (incs_of log) inc
 grown log inc = incs-inc log (entry.Inc inc) inc refl
 
--- the group takes the map that comes next
-pub kept-follows : (log : List Entry) (inc : Incremental) (before : MapBefore) (after : OsdMap) (kept : KeptGroup) → IsKeptOf log kept → IsStep log inc before after → Follows (reaching (epoch (incs_of log)) kept.group) after
-kept-follows log inc before after kept is step =
-    next-follows log kept.pg inc (reaching (epoch (incs_of log)) kept.group) after is.group_is (step-fine log inc before after step) (step-checked log inc before after step) step.after_is
-
+-- the next map has the group
 pub kept-there : (log : List Entry) (inc : Incremental) (before : MapBefore) (after : OsdMap) (kept : KeptGroup) → IsKeptOf log kept → IsStep log inc before after → HasGroup after kept.pg
 kept-there log inc before after kept is step =
-    subst (HasGroup after) is.group_is.keeps.pg_is (kept-follows log inc before after kept is step).there
+    next-there log kept.pg inc (reaching (epoch (incs_of log)) kept.group) after is.group_is (step-fine log inc before after step) (step-checked log inc before after step) step.after_is
 
 -- the raw set stays, where the tree puts the group nowhere else
 pub kept_raw-stays : (log : List Entry) (inc : Incremental) (before : MapBefore) (after : OsdMap) (kept : KeptGroup) → IsKeptOf log kept → IsStep log inc before after → may_place_elsewhere (incs_of log) inc kept.pg ≡ false
@@ -102,7 +98,7 @@ view-now log pg view is =
 -- ---- a group comes
 
 pub kept-begun : (log : List Entry) (inc : Incremental) (before : MapBefore) (after : OsdMap) (kept : KeptGroup) (members : Membership) → kept.view ≡ None → IsStep log inc before after → has_group (incs_of log) kept.pg ≡ false → has_group (then_with (incs_of log) inc) kept.pg ≡ true
-    → ((l : List Entry) → AreNumbered (incs_of l) → IsMapOf (incs_of l) after → has_group (incs_of l) kept.pg ≡ true → made_at (incs_of l) kept.pg.pool ≡ epoch (incs_of l) → IsSilent l kept.pg → membership (incs_of l) kept.pg ≡ Some members → IsGroupOf l kept.pg kept.group)
+    → ((l : List Entry) → EpochsAscend (incs_of l) → IsMapOf (incs_of l) after → has_group (incs_of l) kept.pg ≡ true → made_at (incs_of l) kept.pg.pool ≡ epoch (incs_of l) → IsSilent l kept.pg → membership (incs_of l) kept.pg ≡ Some members → IsGroupOf l kept.pg kept.group)
     → ((incs : List Incremental) → IsMapOf incs after → raw_set_of incs kept.pg ≡ Some kept.raw)
     → ((incs : List Incremental) → IsMapOf incs after → option_map (λ made. members_from_up incs made kept.pg (without_down incs made kept.raw)) (pool incs kept.pg.pool) ≡ Some members)
     → ((incs : List Incremental) → IsMapOf incs after → kept.temp ≡ temp incs kept.pg)
@@ -114,7 +110,7 @@ kept-begun log inc before after kept members none step absent there begins place
     let raw : IsRawSet (incs_of later) kept.pg kept.raw = raw-anew log inc before after kept.pg kept.raw step placed in
     record {
       group_is = reached-now later kept.pg kept.group (begins later
-          (numbered (incs_of later) (ap are_checked (grown log inc) ∙ step-checked log inc before after step))
+          (epochs_ascend (incs_of later) (ap are_checked (grown log inc) ∙ step-checked log inc before after step))
           now
           (ap (λ (l : List Incremental). has_group l kept.pg) (grown log inc) ∙ there)
           (subst (λ (l : List Incremental). made_at l kept.pg.pool ≡ epoch l) back (made-now (incs_of log) inc kept.pg absent there))

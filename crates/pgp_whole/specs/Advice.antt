@@ -1,4 +1,4 @@
--- What there is to say of a group, and what would bring it back.
+-- What there is to say of a group, and what would end its waiting.
 use Rattle.std.specs.Prelude.{◌≡◌, ◌≢◌, ℕ, ◌+◌, ◌-◌, ◌^◌, ◌==◌, List, [], ◌∷◌, ◌++◌, Bool, true, false, not, nat_eq, nat_le, min, length, take, map, filter, flat_map, Option, Some, None, All, string_bytes, if◌then◌else◌}
 use Rattle.pgp_ids.specs.declared.entry.Entry.{Entry}
 use Rattle.pgp_ids.specs.declared.entry.Entry.TheVariants as entry
@@ -26,7 +26,7 @@ use Rattle.pgp_whole.specs.declared.choice.Choice.{Choice}
 
 -- ---- what a group is after a way
 
--- the epoch after this one, as far as epochs go, which no log comes near
+-- the epoch after this one; none comes after the last, which leads to itself and is refused
 abbrev pub next_epoch : ℕ → ℕ
 next_epoch epoch = min (epoch + 1) (2 ^ 32 - 1)
 
@@ -34,6 +34,7 @@ next_epoch epoch = min (epoch + 1) (2 ^ 32 - 1)
 abbrev pub telling_inc : ℕ → (up : List ℕ) → (lost : List DeviceEpoch) → Incremental
 telling_inc epoch up lost =
     record {
+      after = epoch - 1;
       epoch = epoch;
       up = up;
       down = [];

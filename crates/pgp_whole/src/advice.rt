@@ -1,4 +1,4 @@
-//! What there is to say of a group, and what would bring it back.
+//! What there is to say of a group, and what would end its waiting.
 
 ghost use Rattle.std.specs.Prelude.{◌≡◌, Some, None, map as mapped, IfOk, IfSome, IfNone};
 ghost use Rattle.pgp_reasons.specs.GroupWays.{lost_at_epoch};
@@ -156,7 +156,7 @@ fn told_of(
     }
 }
 
-/// The epoch after this one.
+/// The epoch after this one; the last one itself.
 fn next(epoch: Epoch) -> Epoch
     ensures { result ≡ next_epoch epoch }
 {
@@ -187,6 +187,7 @@ fn inc_of(
     ensures { result ≡ telling_inc epoch booted given_up }
 {
     Incremental {
+        after: epoch.before(),
         epoch,
         up: booted,
         down: Seq::new(alloc),

@@ -13,8 +13,8 @@ ghost use Rattle.pgp_map.specs.MapOf.{IsMapOf};
 ghost use Rattle.pgp_map.specs.Pools.{pool, has_group};
 ghost use Rattle.pgp_sets.specs.Sets.{membership};
 ghost use Rattle.pgp_group.specs.Entries.{incs_of};
-ghost use Rattle.pgp_group.specs.GroupHistory.{AreNumbered, group_facts, group_primary, made_at};
-ghost use Rattle.pgp_group.specs.GroupOf.{IsGroupOf, IsSilent, Follows};
+ghost use Rattle.pgp_group.specs.GroupHistory.{EpochsAscend, group_facts, group_primary, made_at};
+ghost use Rattle.pgp_group.specs.GroupOf.{IsGroupOf, IsSilent};
 ghost use Rattle.pgp_group.specs.Reaching.{reaching};
 
 use super::{Group, Infos, Intervals, KeptPrior, NamedDevices, Reports};
@@ -28,7 +28,7 @@ impl Group {
     /// it looks for none itself. It takes no memory.
     pub fn begin_members(alloc: Global, map: &OsdMap, pg: PgId, members: Membership) -> Self
         requires { HasGroup map.now pg }
-        ensures { (log : List AnyEntry) → AreNumbered (incs_of log) → IsMapOf (incs_of log) map.now
+        ensures { (log : List AnyEntry) → EpochsAscend (incs_of log) → IsMapOf (incs_of log) map.now
             → has_group (incs_of log) pg ≡ true → made_at (incs_of log) pg.pool ≡ epoch_of (incs_of log)
             → IsSilent log pg → membership (incs_of log) pg ≡ Some members → IsGroupOf log pg result }
     {
@@ -64,7 +64,6 @@ impl Group {
         members: Membership,
         facts: PrimaryFacts,
     ) -> Result<(), AllocError>
-        requires { Follows self.old after.now }
         ensures ok { OnOk result ((log : List AnyEntry) (pg : Id) (inc : Incremental)
             → IsGroupOf log pg self.old → map_fault (incs_of log) inc ≡ None
             → group_facts (incs_of log) pg ≡ Some facts → IsMapOf (then_with (incs_of log) inc) after.now

@@ -1,12 +1,13 @@
 //! How the history of a group grows with the list of incrementals.
 
-ghost use Rattle.std.specs.Prelude.{◌≡◌, ◌≢◌, ◌≤◌, ◌++◌, ℕ, List, Some, true, length, option_map};
+ghost use Rattle.std.specs.Prelude.{◌≡◌, ◌≢◌, ◌≤◌, ◌<◌, ◌-◌, ◌++◌, ℕ, All, List, Some, true, length, map, option_map};
+ghost use Rattle.std.specs.List.{range_with_len};
 ghost use Rattle.pgp_code.specs.Pool.{code_of};
 ghost use Rattle.pgp_code.specs.declared.any.AnyCode.{AnyCode};
 ghost use Rattle.pgp_ids.specs.declared.entry.Entry.{Entry};
 ghost use Rattle.pgp_ids.specs.declared.incremental.Incremental.{Incremental};
 ghost use Rattle.pgp_ids.specs.declared.pg_id.PgId.{PgId};
-ghost use Rattle.pgp_interval.specs.History.{History, begun, stepped};
+ghost use Rattle.pgp_interval.specs.History.{History, begun};
 ghost use Rattle.pgp_interval.specs.Runs.{current_first};
 ghost use Rattle.pgp_map.specs.Checked.{are_checked};
 ghost use Rattle.pgp_map.specs.Map.{epoch, up_to};
@@ -16,31 +17,39 @@ ghost use Rattle.pgp_map.specs.Pools.{pool, has_group};
 ghost use Rattle.pgp_map.specs.declared.map.OsdMap.{OsdMap};
 ghost use Rattle.pgp_sets.specs.Sets.{membership, pool_membership};
 ghost use Rattle.pgp_group.specs.Entries.{incs_of};
-ghost use Rattle.pgp_group.specs.GroupHistory.{AreNumbered, makes, made_at, primary_facts, group_history};
+ghost use Rattle.pgp_group.specs.GroupHistory.{EpochsAscend, grown_with, makes, made_at, group_history};
 ghost use Rattle.pgp_group.specs.GroupLog.{GroupLog, group_in};
-ghost use Rattle.pgp_group.specs.GroupOf.{IsGroupOf, Follows};
+ghost use Rattle.pgp_group.specs.GroupOf.{IsGroupOf, IsThere};
 ghost use Rattle.pgp_group.specs.Heard.{les};
 ghost use Rattle.pgp_group.specs.declared.group.Group.{Group};
 
 use pgp_map::laws::{checked_lists_grow_by_incrementals_without_fault, pools_of_checked_lists};
 
-/// The epochs of incrementals that were checked one by one are 1, 2, and so on: the last is the number of incrementals, and
-/// the map of that epoch is what they all make.
-#[tactic(auto, using(crate::proofs::GrowthLemmas::numbered_laws))]
-pub fn checked_incrementals_are_numbered()
-    ensures counts { (incs : List Incremental) → are_checked incs ≡ true → AreNumbered incs }
-    ensures last { (incs : List Incremental) → are_checked incs ≡ true → epoch incs ≡ length incs }
+/// Each of the incrementals that were checked one by one leads from the last epoch to a later one, so that the map of the last epoch
+/// is what they all make. Where each leads to the next epoch, these are 1, 2, and so on. An epoch that was passed over has the map
+/// before it.
+#[tactic(auto, using(crate::proofs::GrowthLemmas::ascend_laws))]
+pub fn epochs_of_checked_incrementals_ascend()
+    ensures ascend { (incs : List Incremental) → are_checked incs ≡ true → EpochsAscend incs }
+    ensures linked { (incs : List Incremental) (inc : Incremental) → are_checked (then_with incs inc) ≡ true
+        → (inc.after ≡ epoch incs) × (inc.after < inc.epoch) }
+    ensures counts { (incs : List Incremental) → are_checked incs ≡ true → All (λ inc. inc.after ≡ inc.epoch - 1) incs
+        → map (λ inc. inc.epoch) incs ≡ range_with_len 1 (length incs) }
+    ensures last { (incs : List Incremental) → are_checked incs ≡ true → All (λ inc. inc.after ≡ inc.epoch - 1) incs
+        → epoch incs ≡ length incs }
     ensures all { (incs : List Incremental) → are_checked incs ≡ true → up_to (epoch incs) incs ≡ incs }
+    ensures passed { (incs : List Incremental) (inc : Incremental) (at : ℕ) → are_checked (then_with incs inc) ≡ true
+        → epoch incs ≤ at → at < inc.epoch → up_to at (then_with incs inc) ≡ incs }
 {}
 
-/// A history grows by one state for each incremental: the membership of the new map follows, and what the map before said of
-/// the primary that was acting completes the epoch that was current. A group that is there stays.
-#[tactic(auto, using(crate::proofs::GrowthLemmas::growth_laws))]
-pub fn history_grows_by_one_state()
+/// A history grows with each incremental: the membership of the new map follows, and what the map before said of the primary
+/// that was acting completes the epoch that was current and those that the incremental passes over. A group that is there
+/// stays.
+pub fn history_grows_with_each_incremental()
     ensures grows { (incs : List Incremental) (inc : Incremental) (pg : PgId) (h : History AnyCode)
         → are_checked (then_with incs inc) ≡ true → group_history incs pg ≡ Some h
         → group_history (then_with incs inc) pg
-        ≡ option_map (λ members. stepped h members (primary_facts incs h.current.acting_primary)) (membership (then_with incs inc) pg) }
+        ≡ option_map (grown_with incs inc h) (membership (then_with incs inc) pg) }
     ensures stays { (incs : List Incremental) (inc : Incremental) (pg : PgId) (h : History AnyCode)
         → are_checked (then_with incs inc) ≡ true → group_history incs pg ≡ Some h
         → has_group (then_with incs inc) pg ≡ true }
@@ -72,11 +81,11 @@ pub fn history_begins_with_its_pool()
         ≡ option_map (λ made. begun (code_of made.kind) inc.epoch (pool_membership (then_with incs inc) pg made)) (pool (then_with incs inc) pg.pool) }
 {}
 
-/// The map that the next incremental makes follows that of a group, so that the group can take it.
-pub fn the_next_map_follows()
+/// The map that the next incremental makes has each group that was there, so that the group can take it.
+pub fn the_next_map_has_the_group()
     ensures { (log : List Entry) (pg : PgId) (inc : Incremental) (group : Group) (map : OsdMap) → IsGroupOf log pg group
         → are_checked (then_with (incs_of log) inc) ≡ true → IsMapOf (then_with (incs_of log) inc) map
-        → Follows group map }
+        → IsThere group map }
 {
     checked_lists_grow_by_incrementals_without_fault();
     pools_of_checked_lists();

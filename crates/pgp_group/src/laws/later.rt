@@ -1,6 +1,6 @@
 //! Which reports count later, as more of the log comes.
 
-ghost use Rattle.std.specs.Prelude.{◌≡◌, ◌≢◌, ◌≤◌, ℕ, List, [], ◌∷◌, false};
+ghost use Rattle.std.specs.Prelude.{◌≡◌, ◌≢◌, ◌≤◌, ◌<◌, ℕ, List, [], ◌∷◌, false};
 ghost use Rattle.pgp_ids.specs.declared.entry.Entry.{Entry};
 ghost use Rattle.pgp_ids.specs.declared.entry.Entry.TheVariants as entry;
 ghost use Rattle.pgp_ids.specs.declared.incremental.Incremental.{Incremental};
@@ -10,12 +10,11 @@ ghost use Rattle.pgp_group.specs.GroupLog.{GroupLog, incs};
 ghost use Rattle.pgp_group.specs.Heard.{is_counted, heard, reported};
 ghost use Rattle.pgp_group.specs.Later.{IsAfter, AreSentBy};
 
-/// A new interval has heard nobody: where an incremental opens one, nothing that was sent in the epoch before or earlier
-/// counts.
+/// A new interval has heard nobody: where an incremental opens one, nothing that was sent before its epoch counts.
 #[tactic(auto, using(crate::proofs::LaterLemmas::new_laws))]
 pub fn a_new_interval_has_heard_nobody()
     ensures counts { (g after : GroupLog) (inc : Incremental) (member : Member) (stamp : ℕ) → IsAfter g (entry.Inc inc ∷ []) after
-        → after.history.current ≢ g.history.current → stamp ≤ epoch (incs g) → is_counted after member stamp ≡ false }
+        → after.history.current ≢ g.history.current → stamp < inc.epoch → is_counted after member stamp ≡ false }
     ensures infos { (g after : GroupLog) (inc : Incremental) → IsAfter g (entry.Inc inc ∷ []) after
         → after.history.current ≢ g.history.current → AreSentBy (epoch (incs g)) g → heard after ≡ [] }
     ensures entries { (g after : GroupLog) (inc : Incremental) (member : Member) → IsAfter g (entry.Inc inc ∷ []) after

@@ -2,7 +2,7 @@
 ghost use Rattle.std.specs.Prelude.{◌≡◌, Ok, Err, IfOk, IfErr, IfSome, OnOk};
 ghost use Rattle.pgp_lines.specs.Value.{view};
 ghost use Rattle.pgp_lines.specs.LineFault.{line_fault_of};
-ghost use Rattle.pgp_lines.specs.Format.{format_number, format_of, read_in, judged, has_kind, has_alg, has_pools, has_tree, judged_at};
+ghost use Rattle.pgp_lines.specs.Format.{format_number, format_of, read_in, judged, has_kind, has_alg, has_after, has_pools, has_tree, judged_at};
 ghost use Rattle.std.specs.List.{list_all};
 
 use super::faults::bad_field_fault;
@@ -20,7 +20,7 @@ pub enum Format {
     One,
     /// It has grouped pools too. Lines are read up to it where nobody asks for a later one.
     Two,
-    /// It has straw2 buckets too. It is read on request.
+    /// It has straw2 buckets too, and the key `after` of an incremental. It is read on request.
     Three,
 }
 
@@ -116,6 +116,16 @@ impl Format {
                 BucketAlg::Uniform | BucketAlg::List => true,
                 BucketAlg::Straw2 => false,
             },
+            Format::Three => true,
+        }
+    }
+
+    /// Whether it has the key `after` of an incremental.
+    pub(super) fn has_after(self) -> bool
+        ensures { result ≡ has_after self }
+    {
+        match self {
+            Format::One | Format::Two => false,
             Format::Three => true,
         }
     }

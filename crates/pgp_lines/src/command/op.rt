@@ -1,9 +1,9 @@
 //! The operations, in one table: the name of each, the keys that its line may have, and what reads the values at them.
 
-ghost use Rattle.std.specs.Prelude.{◌≡◌, Ok, Err, map, IfOk, IfErr, IfSome};
+ghost use Rattle.std.specs.Prelude.{◌≡◌, ◌∷◌, codes, if◌then◌else◌, Ok, Err, map, IfOk, IfErr, IfSome};
 ghost use Rattle.pgp_lines.specs.Value.{view};
 ghost use Rattle.pgp_lines.specs.LineFault.{line_fault_of};
-ghost use Rattle.pgp_lines.specs.Op.{op_keys, op_name, op_named};
+ghost use Rattle.pgp_lines.specs.Op.{inc_keys, op_keys, op_name, op_named};
 ghost use Rattle.pgp_lines.specs.Command.{values_of};
 
 use super::Command;
@@ -62,18 +62,15 @@ impl Op {
         }
     }
 
-    /// The keys that its line may have, in ascending byte order.
-    pub fn keys(self) -> &'static [&'static str]
-        ensures { map (λ k. k.now) result.now ≡ op_keys self }
+    /// The keys that its line may have in this version, in ascending byte order.
+    pub fn keys(self, format: Format) -> &'static [&'static str]
+        ensures { map (λ k. k.now) result.now ≡ op_keys format self }
     {
         match self {
             Op::Ask => &["op", "pg", "v"],
             Op::Close => &["op", "v"],
             Op::Entries => &["from", "log", "op", "pg", "stamp", "v"],
-            Op::Inc => &[
-                "crush", "down", "epoch", "gone", "lost", "op", "pools", "sizes", "temp", "up",
-                "up_thru", "v", "weight",
-            ],
+            Op::Inc => inc_keys(format.has_after()),
             Op::Info => &[
                 "complete",
                 "from",
@@ -91,6 +88,7 @@ impl Op {
             Op::Trace => &["code", "epochs", "op", "v"],
         }
     }
+
     /// The command of its line, past the judgement of the line's keys; the line names the version `format`, and lines up to
     /// the version `last` are read.
     pub(super) fn read(
@@ -133,4 +131,17 @@ impl Op {
             Op::Trace => read_trace(alloc, value, last, format),
         }
     }
+}
+
+/// The keys that the line of an incremental may have in the last version.
+const INC_KEYS: &[&str] = &[
+    "after", "crush", "down", "epoch", "gone", "lost", "op", "pools", "sizes", "temp", "up",
+    "up_thru", "v", "weight",
+];
+
+/// The keys that the line of an incremental may have, with `after` or without it.
+fn inc_keys(has_after: bool) -> &'static [&'static str]
+    ensures { map (λ k. k.now) result.now ≡ (if has_after then codes "after" ∷ inc_keys else inc_keys) }
+{
+    if has_after { INC_KEYS } else { &INC_KEYS[1..] }
 }

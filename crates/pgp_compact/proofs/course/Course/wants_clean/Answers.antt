@@ -1,4 +1,4 @@
-use Rattle.pgp_compact.proofs.Common.{Bool, GroupPlace, ap, arith, can_write, code_of, enough_of, epoch, is_by_place, is_recorded, nat_le, nat_tests, not, primary_facts, same_Some, sym, then_with, ◌&&◌, ◌||◌, ◌∙◌, ◌≡◌}
+use Rattle.pgp_compact.proofs.Common.{Bool, GroupPlace, ap, arith, can_write, code_of, enough_of, epoch-snoc, is_by_place, is_recorded, last-checked, later_epoch, nat_le, nat_tests, not, primary_facts, same_Some, sym, then_with, ◌-◌, ◌&&◌, ◌||◌, ◌∙◌, ◌≡◌}
 use Rattle.pgp_compact.proofs.CoursesLemmas.{if-able, pool-later, wants-are}
 use Rattle.pgp_compact.proofs.course.Course.wants_clean.Goals as goal
 
@@ -19,7 +19,8 @@ returns c = λ incs inc place next before some way.
     let recorded : Bool = is_recorded (primary_facts incs place.members.acting_primary) now.first in
     let facts = c.facts-facts.ensures incs inc before next.after_is in
     let recorded-is : recorded ≡ c.is_recorded.result = (λ i. is_recorded ((ap (λ (p : GroupPlace). primary_facts incs p.members.acting_primary) same ∙ sym facts) i) now.first) ∙ sym c.is_recorded.ensures in
-    let late : c.le.result ≡ nat_le now.les (epoch incs) = grind (arith, nat_tests, before.epoch_is) in
+    let later-is : c.epoch.result ≡ inc.epoch = c.epoch.ensures later next.after_is ∙ epoch-snoc incs inc in
+    let late : c.lt.result ≡ nat_le now.les (inc.epoch - 1) = grind (arith, nat_tests, later-is, later_epoch incs inc (last-checked incs inc next.checked)) in
     c.can_matter.ensures
     ∙ (λ i. sym can-is i && (not (sym recorded-is i) || late i))
-    ∙ if-able can recorded (nat_le now.les (epoch incs)) ∙ sym wants
+    ∙ if-able can recorded (nat_le now.les (inc.epoch - 1)) ∙ sym wants

@@ -12,7 +12,7 @@ returns-in_ok-push-clause-ok c = λ log pg come is.
     let g : GroupLog = group_with log pg is.history in
     let after : GroupLog = group_with (log ++ entry.Info info ∷ []) pg is.history in
     let same : is_same_group info.pg pg ≡ true = subst (λ (q : PgId). is_same_group info.pg q ≡ true) is.keeps.pg_is (sym c.eq.ensures ∙ c.if-eq.true) in
-    let last : now.intervals.last ≡ epoch (incs_of log) = is.keeps.intervals_are.last_is ∙ history-last (incs_of log) pg is.history is.numbered is.history_is in
+    let last : now.intervals.last ≡ epoch (incs_of log) = is.keeps.intervals_are.last_is ∙ history-last (incs_of log) pg is.history is.ascend is.history_is in
     let known : info.last_epoch_clean ≤ now.intervals.last = omega (arith, come same, last) in
     let epochs = cleans-told log info pg is.history same in
     IsGroupOf-report log (entry.Info info) pg now c.take_clean.new.self is refl (record {

@@ -12,7 +12,7 @@ returns-in_ok-push-clause-ok c = λ log pg is.
     IsGroupOf-other log (entry.Entries report) pg c.args.self.now _ is refl (infos-same log (entry.Entries report) pg refl) refl refl
     (infos-kept log (entry.Entries report) pg is.history c.args.self.now.infos refl (infos-same log (entry.Entries report) pg refl) is.keeps.infos_are)
     (c.in_ok-push.ensures.ok (group_with log pg is.history) (group_with (log ++ entry.Entries report ∷ []) pg is.history)
-    (omega (arith, c.last.ensures, is.keeps.intervals_are.last_is, history-last (incs_of log) pg is.history is.numbered is.history_is))
+    (omega (arith, c.last.ensures, is.keeps.intervals_are.last_is, history-last (incs_of log) pg is.history is.ascend is.history_is))
     (reports-told log report pg is.history same) is.keeps.reports_are)
     (KeepsNames-report (group_with log pg is.history) (group_with (log ++ entry.Entries report ∷ []) pg is.history) c.args.self.now.named c.add.new.self report
     (past-same (group_with log pg is.history) (group_with (log ++ entry.Entries report ∷ []) pg is.history) refl (infos-same log (entry.Entries report) pg refl))

@@ -1,5 +1,5 @@
-use Rattle.pgp_shard.proofs.Common.{◌≡◌, Some, sym, ap, ◌∙◌, subst, option_map, on_ok_weaker, incs_of, primary_facts, Follows, IsGroupOf, reaching, Group, KeptGroup}
-use Rattle.pgp_shard.proofs.KeptLemmas.{group-still, kept-follows, kept-moved, kept-there}
+use Rattle.pgp_shard.proofs.Common.{◌≡◌, Some, sym, ap, ◌∙◌, subst, option_map, on_ok_weaker, incs_of, primary_facts, IsGroupOf, reaching, Group, KeptGroup}
+use Rattle.pgp_shard.proofs.KeptLemmas.{group-still, kept-moved, kept-there}
 use Rattle.pgp_shard.proofs.kept_group.KeptGroup.move_on.Goals as goal
 
 pub place_anew-requires : goal.place_anew-requires
@@ -8,16 +8,6 @@ place_anew-requires c = kept-there c.requires.log c.args.inc.now c.args.before.n
 pub filter-members-requires : goal.filter-members-requires
 filter-members-requires c =
     rw c.place_anew.ensures.pg (kept-there c.requires.log c.args.inc.now c.args.before.now c.args.after.now c.args.self.now c.requires.is c.requires.step)
-
-pub absorb_members-requires : goal.absorb_members-requires
-absorb_members-requires c =
-    let log = c.requires.log in
-    let old : KeptGroup = c.args.self.now in
-    let at = c.args.before.now.epoch in
-    let stood : Group = c.stay.new.self in
-    let is : stood ≡ reaching at old.group = c.stay.ensures.is ∙ ap (λ (g : Group). reaching at g) c.place_anew.ensures.group in
-    subst (λ (g : Group). Follows g c.args.after.now) (sym (is ∙ ap (λ e. reaching e old.group) c.requires.step.before_is.epoch_is))
-    (kept-follows log c.args.inc.now c.args.before.now c.args.after.now old c.requires.is c.requires.step)
 
 pub returns-clause-ok : goal.returns-clause-ok
 returns-clause-ok c =
