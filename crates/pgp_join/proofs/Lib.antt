@@ -1,0 +1,6 @@
+pub mod MapLemmas
+pub mod ViewLemmas
+pub mod StepLemmas
+pub mod FollowLemmas
+pub mod AnswerLemmas
+pub mod PassedLemmas

@@ -1,0 +1,8 @@
+//! Logs that nothing which may follow tells apart.
+//!
+//! This crate defines when another log may stand for one: the reports are the same, the last maps say the same of all that entries
+//! and views read, and of each group the same intervals can matter. Its laws say that such logs have alike views, now and after
+//! whatever entries come. So incrementals may be left out and others pass over their epochs. It makes no such log itself.
+#![tactic(auto)]
+
+pub mod laws;
