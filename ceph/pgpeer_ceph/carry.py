@@ -5,7 +5,7 @@ import contextlib
 import os
 from typing import Callable, Optional
 
-from .epochs import side_path, side_text
+from .epochs import Epochs, side_path, side_text
 from .history import Script
 from .nodes import Unusable, compact
 from .notes import Notes
@@ -21,6 +21,8 @@ def options_of_scripts(parser: argparse.ArgumentParser) -> None:
                         help="carry this pool, and others only where they are named so too")
     parser.add_argument("--straw2", action="store_true",
                         help="carry straw2 buckets as such, in lines that `pgpeer run --format 3` reads")
+    parser.add_argument("--keep-epochs", action="store_true",
+                        help="keep Ceph's epochs, also where some have no map, in lines that `pgpeer run --format 3` reads")
     parser.add_argument("--ask", action="store_true", help="append a question for each group")
     parser.add_argument("--strict", action="store_true", help="what can't be carried over is an error")
     parser.add_argument("--output", "-o", metavar="SCRIPT", help="the script's file, beside which its epochs are kept")
@@ -52,8 +54,8 @@ def keep(made: Script, path: Optional[str]) -> None:
         if made.epochs is not None and made.epochs.offset:
             tell(f"epochs: Ceph's are those of the script and {made.epochs.offset} more; --output SCRIPT keeps that beside the script")
         write(text, path)
-    elif made.epochs is not None:
-        write_files({side_path(path): side_text(made.epochs, made.numbers), path: text})
+    elif made.epochs is not None or made.numbers.pools:
+        write_files({side_path(path): side_text(made.epochs or Epochs(), made.numbers), path: text})
     else:
         write(text, path)
         with contextlib.suppress(FileNotFoundError):

@@ -20,6 +20,7 @@ from .steps import Pool, View, answer_of, streamed
 Added = Callable[[List[Group], Part], List[str]]  # the lines that are added for some groups of the script
 
 SERVES = ("Serve", "NeedUpThru")  # the second passes with the next map
+REFUSED = b'{"code":'  # how the answer to a line begins that is refused
 
 
 class Said(NamedTuple):
@@ -69,6 +70,7 @@ class Cluster:
         self.numbers, self.epochs = made.numbers, made.epochs or Epochs()
         self.parts = Parts(made.lines)
         self.said = said_of(dumps)
+        self.at_end: Dict[Group, View] = {}  # what the program says of all groups, once it was asked
         self.last, self.uses = dumps.maps[max(dumps.maps)], dumps.uses
         self.modified = {epoch: node.value.get("modified") for epoch, node in dumps.maps.items()}
         trees = [version for version in dumps.trees if version <= version_of(self.last)]
@@ -108,8 +110,10 @@ class Cluster:
 
     def all_views(self) -> Dict[Group, View]:
         """What the program says of all groups that the script has, at its end."""
-        asked = sorted(self.in_script(group) for group in self.carried())
-        return self.answered(list(self.parts.whole()), [], {group: group for group in asked})
+        if not self.at_end:
+            asked = sorted(self.in_script(group) for group in self.carried())
+            self.at_end = self.answered(list(self.parts.whole()), [], {group: group for group in asked})
+        return self.at_end
 
     def views(self, groups: Iterable[Group], more: Optional[Added] = None) -> Dict[Group, View]:
         """What the program says of some groups at the end of the script, after more lines."""
@@ -125,7 +129,7 @@ class Cluster:
                 view = slim(answer_of(line, self.program))
                 if "ok" in view:
                     found[self.numbers.in_ceph(asked[count - first - 1])] = view
-            elif line.startswith(b'{"code":'):
+            elif line.startswith(REFUSED):
                 own = count <= len(lines)
                 self.take_refused(answer_of(line, self.program), lines[count - 1] if own else added[count - 1 - len(lines)], not own)
         if count != first + len(asked):
@@ -142,7 +146,7 @@ class Cluster:
     def reasons(self, group: Group, with_losses: bool = False) -> Reasons:
         """Why a group doesn't serve, in Ceph's epochs."""
         own = self.in_script(group)
-        part = self.parts.of([own])
+        part = self.parts.alone(own)
         return explained(self.program, part.lines, group_text(part.names[own]), self.epochs, with_losses)
 
     def unheard(self, group: Group, view: View) -> List[Tuple[int, int]]:

@@ -209,8 +209,10 @@ def version_at(epoch: int, dumps: Dumps) -> Optional[int]:
 def place_sets(dumps: Dumps, loose: LooseFiles) -> None:
     """Reads where groups lie, in the order of epochs: of each those lines alone that the one before hasn't."""
     before: Set[str] = set()
+    last = ""
     for epoch, path, text in sorted((epoch_of(path, loose), path, text) for path, text in loose.groups):
-        lines = (text or text_of(path)).splitlines()
-        changed = "\n".join(line for line in lines if line not in before)
-        dumps.sets.setdefault(epoch, {}).update(printed_sets(changed, path))
-        before = set(lines)
+        text, sets = text or text_of(path), dumps.sets.setdefault(epoch, {})
+        if text != last:
+            lines = text.splitlines()
+            sets.update(printed_sets("\n".join(line for line in lines if line not in before), path))
+            before, last = set(lines), text

@@ -7,7 +7,7 @@ from .changes import Change, Changes, Lawful, Line, earlier
 from .epochs import Epochs, numbered
 from .folder import Dumps
 from .maps import IN, Group, Places, Pool, Temp, group_text
-from .nodes import compact, ranges
+from .nodes import Unusable, compact, ranges
 from .notes import Notes
 from .numbers import Numbers
 from .reports import Info, entries_lines, info_line
@@ -20,7 +20,7 @@ LONGEST_LINE = 1048576  # bytes, without the line feed
 
 class Script(NamedTuple):
     lines: List[Line]
-    epochs: Optional[Epochs]  # None where they are the script's own
+    epochs: Optional[Epochs]  # None where they are the script's own, or Ceph's
     numbers: Numbers = Numbers()
 
 
@@ -50,11 +50,21 @@ def pool_parts(pools: List[Pool], temps: List[Temp], leaves: Dict[int, int]) -> 
         yield part
 
 
-def incremental(epoch: int, part: Line) -> Line:
+def incremental(epoch: int, part: Line, after: int) -> Line:
+    """The incremental that leads from the epoch `after` to `epoch`, in the first version that can say so."""
+    passes = {"after": after} if after != epoch - 1 else {}
     has_groups = any(pool["kind"] == "grouped" for pool in part.get("pools", ()))
     has_straw2 = any(bucket["alg"] == "straw2" for bucket in part.get("crush") or ())
-    version = {"v": 3 if has_straw2 else 2} if has_straw2 or has_groups else {}
-    return {"op": "inc", **version, "epoch": epoch, **{key: value for key, value in part.items() if value}}
+    version = {"v": 3 if has_straw2 or passes else 2} if has_straw2 or has_groups or passes else {}
+    return {"op": "inc", **version, **passes, "epoch": epoch, **{key: value for key, value in part.items() if value}}
+
+
+def map_lines(parts: List[Line], last: int) -> List[Line]:
+    """The incrementals that make the first map, of which the last leads to the epoch `last`; those before it are passed over."""
+    first = last - len(parts) + 1
+    if first < 1:
+        raise Unusable(f"the map of epoch {last} takes {len(parts)} incrementals, so --keep-epochs can't begin with it")
+    return [incremental(first + at, part, first + at - 1 if at else 0) for at, part in enumerate(parts)]
 
 
 # The script
@@ -66,6 +76,7 @@ class Writer:
     def __init__(self, story: Story):
         self.story, self.notes = story, story.notes
         first = story.snapshots[0]
+        self.known = {snapshot.epoch for snapshot in story.snapshots}
         self.base = earlier(first, story.first) if story.first < first.epoch else first
         self.changes = Changes(story.first, max(story.snapshots[-1].epoch, story.first), self.notes)
         self.root, self.leaves = self.judged()
@@ -104,19 +115,19 @@ class Writer:
         parts = self.first_parts()
         named = [epoch for info in self.infos for epoch in epochs_named(info)]
         named += [version[0] for log in self.log.values() for version, _, _ in log]
-        epochs = numbered(story.first, len(parts), named)
+        epochs = Epochs() if story.wanted.keep_epochs else numbered(story.first, len(parts), named)
         base = epochs.in_script(story.first)
-        fillers: List[Line] = [{} for _ in range(base - len(parts))]
+        fillers: List[Line] = [{} for _ in range(0 if story.wanted.keep_epochs else base - len(parts))]
         parts = fillers + parts
         self.serve(parts[-1], base)
-        lines = [incremental(at, part) for at, part in enumerate(parts, 1)]
+        lines = map_lines(parts, base)
         lines += self.reports(story.first, epochs)
         lines += self.later(epochs, {osd: thru for osd, thru in parts[-1].get("up_thru", [])})
         if story.wanted.ask:
             last = story.snapshots[-1]
             lines += [{"op": "ask", "pg": [pool.id, pg]} for pool in sorted(last.pools.values()) if pool.id in story.pools
                       for pg in range(min(pool.pg_num, story.pools[pool.id].pg_num))]
-        return Script(lines, epochs)
+        return Script(lines, None if story.wanted.keep_epochs else epochs)
 
     def follow(self) -> None:
         """Finds what changes from map to map."""
@@ -126,10 +137,9 @@ class Writer:
                 self.changes.take(before, snapshot)
             before = snapshot
         self.changes.guess(self.is_told)
-        known = {snapshot.epoch for snapshot in story.snapshots}
         for query in story.queries:
             for past in query.past:
-                self.changes.wrote(leaders(past), past.first, past.last, known)
+                self.changes.wrote(leaders(past), past.first, past.last, self.known)
 
     def is_told(self, since: int, now: int) -> bool:
         """Tells whether a query tells of the intervals between two epochs."""
@@ -165,7 +175,7 @@ class Writer:
         self.lawful.thru = thru
         has_tree = bool(self.base.pools) and not self.story.wanted.own_sets
         acting = ActingSets(self) if self.story.wanted.own_sets else None
-        version = self.base.tree
+        version, after = self.base.tree, epochs.in_script(self.story.first)
         for ceph_epoch in range(self.story.first + 1, self.changes.last + 1):
             epoch, change = epochs.in_script(ceph_epoch), self.changes.by_epoch.get(ceph_epoch, Change())
             change.pools = {it: pool for it, pool in change.pools.items() if it in self.story.pools}
@@ -177,8 +187,12 @@ class Writer:
             parts["pools"] = [pool_object(pool, self.leaves[pool.id]) for pool in change.pools.values()]
             if acting:
                 parts["temp"] = acting.temps(ceph_epoch, self.lawful)
-            yield incremental(epoch, parts)
-            yield from self.reports(ceph_epoch, epochs)
+            reports = list(self.reports(ceph_epoch, epochs))
+            if self.story.wanted.keep_epochs and ceph_epoch not in self.known and not reports and not any(parts.values()):
+                continue  # no map and no news: the next incremental passes over it
+            yield incremental(epoch, parts, after)
+            yield from reports
+            after = epoch
 
     def first_sets(self, pools: List[Pool]) -> List[Temp]:
         """The acting sets of the first map: the last that are known by then, or else the first."""
@@ -245,7 +259,7 @@ class ActingSets:
         news, self.again = {**self.again, **news}, {}
         self.take(news, lawful)
         booted, self.up = lawful.up - self.up, set(lawful.up)
-        return {*news, *(group for group, places in self.lists.items() if booted and not booted.isdisjoint(places))}
+        return {*news, *(group for group, places in self.lists.items() if not booted.isdisjoint(places))} if booted else set(news)
 
     def take(self, news: Dict[Group, Where], lawful: Lawful) -> None:
         for group, where in news.items():

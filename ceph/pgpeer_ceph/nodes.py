@@ -97,10 +97,12 @@ def load(path: str) -> Node:
 
 def parsed(text: str, where: str) -> Node:
     """The value of a dump. Lines before the first that opens an object, as osdmaptool prints with marks, are passed over."""
-    lines = text.splitlines(keepends=True)
-    first = next((at for at, line in enumerate(lines) if line.startswith("{")), 0)
+    if not text.startswith("{"):
+        lines = text.splitlines(keepends=True)
+        first = next((at for at, line in enumerate(lines) if line.startswith("{")), 0)
+        text = "".join(lines[first:])
     try:
-        return Node(json.loads("".join(lines[first:])), where)
+        return Node(json.loads(text), where)
     except (ValueError, RecursionError) as fault:
         raise Unusable(f"{where} is not JSON: {fault}") from fault
 

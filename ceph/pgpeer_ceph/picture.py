@@ -1,13 +1,14 @@
 """The picture of a group, as SVG.
 
-The picture has one column for each entry, from left to right, under the epoch of its map. At the top each device that was
-ever in up or acting has a row, with a bar where it stood in acting: its colour says whether the interval may have gone
-read-write, a line in it that only a report says so, and the current interval stands apart. Below stand the verdicts, and for
-whom the group waits: devices that are down and block it, and devices that have yet to be heard. The verdict is unknown where no
-report of the interval was kept so far. At the head stands what `pgpeer explain` says of the group after the last entry: why it
-doesn't serve, and what brings it back. The last column's marks follow that too. Beyond 200 columns runs of entries that change nothing for the group are folded, and then the
-oldest, but never the intervals that block the group, the last that may have gone read-write, or (as many as have room) others
-whose members have to be heard.
+The picture has one column for each entry, from left to right, under the epoch of its map. Where an incremental passes over
+epochs, two ticks stand before its column. At the top each device that was ever in up or acting has a row, with a bar where it
+stood in acting: its colour says whether the interval may have gone read-write, a line in it that only a report says so, and the
+current interval stands apart. Below stand the verdicts, and for whom the group waits: devices that are down and block it, and
+devices that have yet to be heard. The verdict is unknown where no report of the interval was kept so far. At the head stands
+what `pgpeer explain` says of the group after the last entry: why it doesn't serve, and what it waits for. The last column's
+marks follow that too. Beyond 200 columns runs of entries that change nothing for the group are folded, and then the oldest, but
+never the intervals that block the group, the last that may have gone read-write, or (as many as have room) others whose members
+have to be heard.
 """
 
 import bisect
@@ -19,6 +20,7 @@ from typing import Any, Dict, Iterator, List, Optional, Tuple
 from .columns import folded
 from .epochs import Epochs
 from .marks import LETTERS, line, rect, room_for, style, text, triangle
+from .reasons import epochs_text
 from .steps import UNKNOWN, Group, Span, Step
 from .words import at_end, ending, reason
 
@@ -69,7 +71,7 @@ class Picture:
         about = f"Group {self.group.name}: its acting sets, epoch by epoch, and its verdicts, entry by entry"
         size = f'viewBox="0 0 {self.width:.0f} {height:.0f}" width="{self.width:.0f}" height="{height:.0f}"'
         head = [f'<svg xmlns="http://www.w3.org/2000/svg" {size} role="img">', f"<title>{escape(about)}</title>", style()]
-        ground = [rect(0, 0, self.width, height, "page"), *self.titles(), *self.band(), *self.grid(), *self.epochs()]
+        ground = [rect(0, 0, self.width, height, "page"), *self.titles(), *self.band(), *self.grid(), *self.epochs(), *self.gaps()]
         body = [*self.bars(), *self.events(), *self.verdicts(), *self.waits(), *self.folds()]
         return "\n".join([*head, *ground, *body, *legend, "</svg>"]) + "\n"
 
@@ -122,6 +124,19 @@ class Picture:
                 yield text(x + 1, self.top - 2, words, "small soft")
                 free = x + room_for(words, 10) + 6
             after = last
+
+    def passed_over(self) -> List[int]:
+        """The columns whose entry passes over epochs."""
+        ends = [column.epochs() for column in self.columns]
+        return [at for at in range(1, len(ends)) if ends[at][0] > ends[at - 1][1] + 1]
+
+    def gaps(self) -> Iterator[str]:
+        """A second tick before the entry that passes over epochs, which tells whose map these have."""
+        for at in self.passed_over():
+            x, before, after = self.x(at), self.columns[at - 1].epochs()[1], self.columns[at].epochs()[0]
+            words = epochs_text([{"first": before + 1, "last": after - 1}], self.named)
+            yield line(x - 3, self.top, x - 3, self.top + 5, "axis")
+            yield rect(x - 6, self.top - 1, 9, 7, "clear", f"{words}: passed over, with the map of epoch {self.named.text(before)}")
 
     def bars(self) -> Iterator[str]:
         for span in self.spans:
@@ -274,6 +289,8 @@ class Picture:
         for upward, words in ((True, "boots"), (False, "goes down, or is destroyed")):
             if upward in events:
                 yield lambda x, y, upward=upward: triangle(x + 5, y + 3, upward), words
+        if self.passed_over():
+            yield lambda x, y: "".join(line(at, y + 3, at, y + 8, "axis") for at in (x + 7, x + 10)), "epochs are passed over"
         waits = {kind for at in range(len(self.columns)) for kind in self.waits_at(at).values()}
         if "unheard" in waits:
             yield lambda x, y: rect(x + 1, y + 3, 15, 6, "unheard", "", 3), "has yet to be heard"

@@ -14,6 +14,7 @@ from .maps import Group, group_text
 from .nodes import compact
 from .output import write
 from .program import option_of_program
+from .reasons import Reasons
 from .rules import word_of
 from .starts import Need, Plan, Start, need_of, plan_of
 from .steps import Pool, View
@@ -36,8 +37,10 @@ Status 0: the plan was written. Status 2: the command line or the input is wrong
 class Planned:
     """A cluster, the groups that don't serve, and what to start for them."""
 
-    def __init__(self, cluster: Cluster):
+    def __init__(self, cluster: Cluster, with_losses: bool = False):
         self.cluster, carried = cluster, cluster.carried()
+        self.with_losses = with_losses
+        self.why: Dict[Group, Reasons] = {}  # of those that were asked for
         self.left_out = [group for group in cluster.groups if group not in carried]
         self.views = {group: view for group, view in cluster.all_views().items() if view["verdict"] not in SERVES}
         self.needs = self.needs_of([group for group, view in self.views.items() if view["verdict"] in ("Down", "NoPrimary", "Short")])
@@ -60,10 +63,16 @@ class Planned:
         for_backfill = waits_for_backfill(self.cluster, group, view)
         return view["verdict"], pool._replace(groups=repr(pool.groups)), past, tuple(view["acting"]), for_backfill
 
+    def reasons(self, group: Group) -> Reasons:
+        """Why a group doesn't serve, which is asked once."""
+        if group not in self.why:
+            self.why[group] = self.cluster.reasons(group, self.with_losses)
+        return self.why[group]
+
     def need(self, group: Group) -> Need:
         """What the program names; of a group that nothing blocks, devices that served it last, as many as it lacks."""
         view, cluster = self.views[group], self.cluster
-        need = Need(frozenset(), False) if view["verdict"] == "Short" else need_of(cluster.reasons(group))
+        need = Need(frozenset(), False) if view["verdict"] == "Short" else need_of(self.reasons(group))
         if need.sets or view["verdict"] == "Down" or waits_for_backfill(cluster, group, view):
             return need
         count = lacking(view, cluster.pool(group))

@@ -3,6 +3,7 @@
 import argparse
 import concurrent.futures
 import datetime
+import gc
 import os
 import re
 import sys
@@ -204,7 +205,7 @@ class Report:
     def advice(self) -> Dict[str, Any]:
         """What to start, what stays, and why each group doesn't serve."""
         self.progress.show("what helps")
-        planned = Planned(self.cluster)
+        planned = Planned(self.cluster, True)
         devices = self.cluster.devices()
         steps = [{
             "what": "Start " + " and ".join(f"osd.{osd}" for osd in step.osds), "count": len(step.frees),
@@ -233,7 +234,7 @@ class Report:
         if len(classes) > MOST_TOLD:
             self.notes.append(f"why {count_of(sum(map(len, classes[MOST_TOLD:])), 'group')} that are alike to few others don't serve (explain tells it)")
         with concurrent.futures.ThreadPoolExecutor(os.cpu_count() or 1) as pool:
-            found = list(pool.map(lambda groups: self.cluster.reasons(groups[0], True), classes[:MOST_TOLD]))
+            found = list(pool.map(lambda groups: planned.reasons(groups[0]), classes[:MOST_TOLD]))
         return {group: it for groups, it in zip(classes, found) for group in groups}
 
     # What if
@@ -303,6 +304,7 @@ def number_of(cell: str) -> Any:
 
 
 def run(options: argparse.Namespace) -> int:
+    gc.disable()  # what is read stays to the end; looking through it again and again took a quarter of the time
     cluster = Cluster(options.folder, options.program)
     report = Report(cluster, options.each)
     data = report.data()

@@ -33,7 +33,7 @@ def history_of(dumps: Dumps, options: argparse.Namespace, notes: Notes) -> Scrip
     for cause, things in dumps.not_fetched.things.items():
         for thing in things:
             notes.tell(f"not fetched: {cause}", thing)
-    wanted = Selection(options.pool, options.since, options.until, bool(options.groups), options.ask, options.straw2)
+    wanted = Selection(options.pool, options.since, options.until, bool(options.groups), options.ask, options.straw2, options.keep_epochs)
     if options.groups and not (dumps.sets or dumps.stats):
         raise Unusable(f"{' '.join(options.groups)}: no groups, as osdmaptool --test-map-pgs-dump-all prints them")
     for pool in options.pool:

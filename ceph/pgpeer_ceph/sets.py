@@ -42,7 +42,8 @@ def osds_of(text: str) -> Tuple[Optional[int], ...]:
 
 def is_printed(text: str) -> bool:
     """Tells whether the text is what osdmaptool prints of groups; a map without pools has no line of one."""
-    return SETS.search(text) is not None or NO_SETS.search(text) is not None
+    has_sets = " raw " in text and SETS.search(text) is not None  # most files have no such word, which is sooner found out
+    return has_sets or "#osd\t" in text and NO_SETS.search(text) is not None
 
 
 def printed_sets(text: str, where: str) -> Dict[Group, Where]:

@@ -1,15 +1,15 @@
 """The verb `map`: the incrementals that make the map of a Ceph cluster, without history and reports.
 
-The script's epochs count from 1, devices boot in the first, and the pools are made once those that are down have gone down. An
-up_thru that was recorded since the device booted becomes the script's last epoch, so the interval in which the pools are made
-may have gone read-write, as it may have in Ceph.
+The script's epochs count from 1, or with --keep-epochs lead to the map's. Devices boot in the first, and the pools are made
+once those that are down have gone down. An up_thru that was recorded since the device booted becomes the script's last epoch,
+so the interval in which the pools are made may have gone read-write, as it may have in Ceph.
 """
 
 import argparse
 from typing import Any, Dict, Iterator, List, Optional, Tuple
 
 from .carry import finish, options_of_scripts
-from .history import Script, bucket_object, incremental, pool_parts
+from .history import Script, bucket_object, map_lines, pool_parts
 from .maps import IN, Device, Pool, read_devices, read_pool, read_pools, read_temps, tell_map
 from .nodes import Node, Unusable, load, ranges
 from .notes import Notes
@@ -42,8 +42,9 @@ def device_parts(devices: List[Device], tree: List[Bucket], notes: Notes) -> Lis
     return [part for part in parts if any(part.values())]
 
 
-def script(osdmap: Node, crush_node: Optional[Node], wanted: List[int], straw2: bool, notes: Notes) -> Tuple[List[Line], List[Pool]]:
+def script(osdmap: Node, crush_node: Optional[Node], options: argparse.Namespace, notes: Notes) -> Tuple[List[Line], List[Pool]]:
     """The incrementals, and the pools that they make. With pools wanted, just those."""
+    wanted: List[int] = options.pool
     devices, pools = read_devices(osdmap, notes), read_pools(osdmap, notes) if not wanted else []
     if wanted:
         pools = wanted_pools(osdmap, wanted, notes)
@@ -55,16 +56,17 @@ def script(osdmap: Node, crush_node: Optional[Node], wanted: List[int], straw2: 
         crush = read_crush(crush_node, notes)
         root, pools = pools_of_one_root(crush, pools, notes)
         tell_classes(crush_node, notes)
-        tree = carried_tree(crush, root, straw2, notes)
+        tree = carried_tree(crush, root, options.straw2, notes)
         leaves = {pool.id: choice_of(crush, pool).type for pool in pools}
     pools = within_all_groups(pools, notes)
     tell_map(osdmap, {pool.id for pool in pools}, notes)
     temps = read_temps(osdmap, pools, notes)
     parts = device_parts(devices, tree, notes) + list(pool_parts(pools, temps, leaves))
     served = [device.id for device in devices if device.served()]
+    last = osdmap.key("epoch").count() if options.keep_epochs else len(parts)
     if pools and served:
-        parts[-1]["up_thru"] = [[osd, len(parts)] for osd in sorted(served)]
-    return [incremental(epoch, part) for epoch, part in enumerate(parts, 1)], pools
+        parts[-1]["up_thru"] = [[osd, last] for osd in sorted(served)]
+    return map_lines(parts, last), pools
 
 
 def wanted_pools(osdmap: Node, wanted: List[int], notes: Notes) -> List[Pool]:
@@ -83,7 +85,7 @@ def questions(pools: List[Pool]) -> Iterator[Line]:
 
 def map_alone(options: argparse.Namespace, notes: Notes) -> Script:
     osdmap, crush = load(options.osdmap), load(options.crush) if options.crush else None
-    lines, pools = script(osdmap, crush, options.pool, options.straw2, notes)
+    lines, pools = script(osdmap, crush, options, notes)
     if pools and not options.alone:
         notes.tell(HISTORY, HOW)
     return Script([*lines, *(questions(pools) if options.ask else ())], None)

@@ -310,14 +310,17 @@ def may_touch(entry: Dict[str, Any], group: List[int], devices: Set[int]) -> boo
 
 def followed(program: str, path: str, pool: int, pg: int, since: int = 0, until: int = MOST_EPOCH,
              epochs: Epochs = Epochs()) -> Tuple[Group, List[str]]:
-    """The group after each entry from the epoch `since` on, up to the epoch `until`; and what was refused. Why it doesn't
-    serve is said in the epochs of Ceph."""
-    entries, group = up_to(read_script(path), until), [pool, pg]
+    """The group after each entry from the map of the epoch `since` on, up to the epoch `until`; and what was refused. Why it
+    doesn't serve is said in the epochs of Ceph."""
+    every, group = read_script(path), [pool, pg]
+    entries = up_to(every, until)
     lines = [line for _, line, _ in entries]
     question = json.dumps({"op": "ask", "pg": group})
-    last = answers(program, [*lines, question])[-1]
+    *said, last = answers(program, [*lines, question])
     if "ok" not in last:
         raise missing_group(path, f"{pool}.{pg:x}", pools_of(entry for _, _, entry in entries))
+    if len(up_to(every, since)) < len(every):  # an epoch that was passed over has the map before it
+        since = max((it["epoch"] for it in said if "ok" in it and it["epoch"] <= since), default=since)
     devices = devices_of(last, entries, group)
     asked = AskedScript(entries, [may_touch(entry, group, devices) for _, _, entry in entries])
     found, refused = steps_of(program, path, asked, group, since, last)

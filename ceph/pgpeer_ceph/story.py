@@ -34,6 +34,7 @@ class Selection(NamedTuple):
     own_sets: bool = False  # acting sets are those that Ceph printed
     ask: bool = False
     straw2: bool = False  # straw2 buckets are carried as such
+    keep_epochs: bool = False  # epochs are Ceph's, and those without a map and news are passed over
 
 
 class Story:

@@ -3,7 +3,7 @@
 import json
 from typing import Any, Dict, Iterable, Iterator, List, NamedTuple, Optional, Set, Tuple
 
-from .cluster import Cluster, slim
+from .cluster import REFUSED, Cluster, slim
 from .maps import Group, Places
 from .nodes import Unusable, compact
 from .steps import UNKNOWN, Member, View, answer_of, streamed, without_intervals
@@ -54,7 +54,11 @@ class Timeline:
             if count > len(lines):
                 view = answer_of(line, self.cluster.program)
                 if "ok" in view:
-                    found[self.groups[count - len(lines) - 1]] = past_of(view)
+                    group = self.groups[count - len(lines) - 1]
+                    found[group] = past_of(view)
+                    self.cluster.at_end[self.cluster.numbers.in_ceph(group)] = found[group].view
+            elif line.startswith(REFUSED):
+                self.cluster.take_refused(answer_of(line, self.cluster.program), lines[count - 1], False)
         if count != len(lines) + len(self.groups):
             raise Unusable(f"{self.cluster.program} gave {count} answers to {len(lines) + len(self.groups)} lines")
         return found

@@ -522,7 +522,7 @@ class BadInput(Case):
                 name = rng.choice(names)
                 text = (folder / name).read_text()
                 (room / name).write_bytes(broken(rng, text, (folder / rng.choice(names)).read_text()))
-                status, out, err = written("script", "--ask", room)
+                status, out, err = written("script", "--ask", *["--keep-epochs"][: turn % 2], room)
                 self.assertIn(status, (0, 2), err)
                 if status == 2:
                     self.assertEqual(out, "")
@@ -532,10 +532,10 @@ class BadInput(Case):
     def test_broken_scripts_are_drawn_and_told_or_end_with_one_line(self):
         """Cut, empty, random and swapped scripts, and values of another kind anywhere in them."""
         rng = random.Random(6)
-        whole, dump = (ROOT / "examples/ceph_outage.jsonl").read_text(), (OUTAGE / "a-healthy.osd.json").read_text()
-        script = self.folder / "script.jsonl"
-        for _ in range(30):
-            script.write_bytes(broken(rng, whole, dump))
+        wholes = [(ROOT / f"examples/{name}.jsonl").read_text() for name in ("ceph_outage", "passed_over")]
+        script, dump = self.folder / "script.jsonl", (OUTAGE / "a-healthy.osd.json").read_text()
+        for turn in range(60):
+            script.write_bytes(broken(rng, wholes[turn % 2], dump))
             for verb in ("explain", "draw"):
                 status, out, err = written(verb, "--program", PROGRAM, script, "1.0")
                 self.assertIn(status, (0, 2), err)

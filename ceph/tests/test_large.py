@@ -18,6 +18,9 @@ import unittest
 from browser import CHROMIUM, Browser
 from case import HAS_PROGRAM, PROGRAM, TOOL
 from large_cluster import FIRST, made, stand_in
+from pgpeer_ceph.cluster import SERVES, Cluster
+from pgpeer_ceph.maps import group_text
+from pgpeer_ceph.reasons import explained
 from pgpeer_ceph.report import VERDICTS as VERDICTS_OF_PAGES
 from test_report import data_in, names_of, turns_of
 
@@ -80,6 +83,7 @@ class Large(unittest.TestCase):
         told = {(*entry["pg"],) for entry in entries if entry["op"] == "info"}
         self.assertEqual(len(told), len(self.states()))
         self.assertLess(min(side["older"]), FIRST)
+        self.assertLessEqual(side["first"], FIRST)  # that of the first interval that matters
 
     @unittest.skipUnless(HAS_PROGRAM, "the program isn't built")
     def test_3_explain_says_what_the_cluster_says(self):
@@ -95,7 +99,8 @@ class Large(unittest.TestCase):
         text = self.page.read_text()
         self.assertLess(len(text.encode()), MOST_PAGE)
         data = data_in(text)
-        self.assertEqual((data["first"], data["last"]), (FIRST, self.cluster.epoch))
+        side = json.loads((self.room / "large.epochs.json").read_text())
+        self.assertEqual((data["first"], data["last"]), (side["first"], self.cluster.epoch))
         verdicts = dict(zip(names_of(data), last_verdicts(data)))
         self.assertEqual({group: verdicts[group] for group in self.states()}, {group: VERDICTS[state] for group, state in self.states().items()})
         freed = sum(step["count"] for step in data["helps"]["steps"])
@@ -113,6 +118,16 @@ class Large(unittest.TestCase):
         self.assert_moves(browser, data)
         self.assert_filters(browser)
         self.assert_links(browser, data)
+
+    @unittest.skipUnless(HAS_PROGRAM, "the program isn't built")
+    def test_6_devices_of_other_groups_change_no_explanation(self):
+        cluster = Cluster(str(self.room / "dumps"), PROGRAM)
+        blocked = [cluster.in_script(group) for group, view in cluster.all_views().items() if view["verdict"] not in SERVES]
+        for own in blocked[::len(blocked) // 20 + 1]:
+            whole, alone = cluster.parts.of([own]), cluster.parts.alone(own)
+            self.assertLess(sum(map(len, alone.lines)), sum(map(len, whole.lines)))
+            said, other = (explained(PROGRAM, it.lines, group_text(it.names[own]), with_losses=True) for it in (whole, alone))
+            self.assertEqual(said.whole, other.whole)
 
     def text(self, browser, selector):
         return browser.value(f"document.querySelector({json.dumps(selector)}).innerText")

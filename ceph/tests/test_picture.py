@@ -240,6 +240,16 @@ class Bars(unittest.TestCase):
             ends = [x + svg.room_for(text, 10) for x, text in places]
             self.assertTrue(all(end < x for end, (x, _) in zip(ends, places[1:])))
 
+    def test_epochs_that_are_passed_over_are_told(self):
+        root = drawn([step(20), step(22), step(22, op="info"), step(30, 30, intervals=[interval(20, 29, [0, 1, 2], True)])])
+        words, tips = ([node.text for node in root.iter(f"{SVG}{kind}")] for kind in ("text", "title"))
+        self.assertEqual([it for it in words if it.isdigit()], ["20", "22", "30"])
+        self.assertEqual([it for it in tips if "passed over" in it], ["epoch 21: passed over, with the map of epoch 20",
+                                                                     "epochs 23 to 29: passed over, with the map of epoch 22"])
+        self.assertIn("osd.0, epochs 20 to 29: may have gone read-write", tips)
+        self.assertIn("epochs are passed over", words)
+        self.assertNotIn("passed over", picture(self.STEPS).svg())
+
     def test_the_colours_have_contrast(self):
         for scheme in (svg.LIGHT, svg.DARK):
             pairs = [("text", "page"), ("soft", "page"), ("text", "band")]

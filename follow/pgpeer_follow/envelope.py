@@ -1,8 +1,8 @@
 """The lines that a follower takes and gives: the program's, with a few keys more.
 
 A request is a line of the program with an optional `after`, and an entry also with an optional `token`. These members are cut out;
-what is left, byte for byte as it was told, is the program's. An answer begins with the follower's keys, `at` the first; what
-follows is the program's, byte for byte.
+what is left, byte for byte as it was told, is the program's. In an `inc` line of version 3 `after` is the program's too. An answer
+begins with the follower's keys, `at` the first; what follows is the program's, byte for byte.
 """
 
 import json
@@ -99,20 +99,27 @@ def of_members(line: bytes, found: List[Member]) -> Request:
     """The request of an object; a key that stands twice has its last value."""
     last = {it.key: it for it in found}
     op = last["op"].value if "op" in last and isinstance(last["op"].value, str) else ""
-    envelope = {"after", *(["token"] if op in ENTRIES or op == "place" else [])}
+    envelope = set() if names_its_map(op, last) else {"after"}
+    envelope |= {"token"} if op in ENTRIES or op == "place" else set()
     if op in OWN:
         unknown = sorted(last.keys() - OWN[op] - {"op"}, key=lambda key: key.encode(errors="surrogatepass"))
         if unknown:
             raise Refused(33, "UnknownKey", unknown[0])
         if op == "place" and "token" not in last:
             raise Refused(34, "BadField", "token")
-    after, token = after_of(last.get("after")), token_of(last.get("token") if "token" in envelope else None)
-    if last.keys() & envelope:
+    own = {key: last[key] for key in last.keys() & envelope}
+    after, token = after_of(own.get("after")), token_of(own.get("token"))
+    if own:
         kept = [it.text for it in found if it.key not in envelope]
         line = ("{" + ",".join(kept) + "}").encode()
     if len(line) > LONGEST_LINE:
         raise Refused(30, "LineTooLong")
     return Request(op, line, after, token)
+
+
+def names_its_map(op: str, last: Dict[str, Member]) -> bool:
+    """Tells whether `after` is the epoch of the map that an incremental changes, and no place of the log."""
+    return op == "inc" and "v" in last and type(last["v"].value) is int and last["v"].value == 3
 
 
 def after_of(member: Optional[Member]) -> int:

@@ -36,6 +36,16 @@ class Reads(unittest.TestCase):
             request = envelope.read(told)
             self.assertEqual((request.line, request.after), (line, after))
 
+    def test_in_an_incremental_of_version_3_it_is_the_epoch_of_a_map(self):
+        for line in (b'{"op":"inc","v":3,"after":20,"epoch":30}', b'{"after":"x" , "v" : 3,"op":"inc"}', b'{"v":1,"op":"inc","after":1,"v":3,"after":2}'):
+            request = envelope.read(line)
+            self.assertEqual((request.line, request.after, request.is_entry()), (line, 0, True))
+        request = envelope.read(b'{"op":"inc","v":3,"after":20,"token":"a","epoch":30}')
+        self.assertEqual((request.line, request.after, request.token), (b'{"op":"inc","v":3,"after":20,"epoch":30}', 0, "a"))
+        for line in (b'{"op":"ask","v":3,"after":7}', b'{"op":"inc","v":2,"after":7}', b'{"op":"inc","after":7}', b'{"op":"inc","v":3.0,"after":7}',
+                     b'{"op":"inc","v":"3","after":7}', b'{"op":"inc","v":3,"v":1,"after":7}', b'{"op":"close","v":3,"after":7}'):
+            self.assertEqual((envelope.read(line).line, envelope.read(line).after), (line.replace(b',"after":7', b""), 7), line)
+
     def test_a_token_belongs_to_entries(self):
         request = envelope.read(b'{"op":"close","token":"a.B-1_:"}')
         self.assertEqual((request.line, request.token, request.is_entry()), (b'{"op":"close"}', "a.B-1_:", True))
@@ -90,7 +100,8 @@ class Hostile(unittest.TestCase):
             self.assertIn(fault.code, (30, 31, 32, 33, 34))
             return
         whole, left = (json.loads(it, object_pairs_hook=list) for it in (line, request.line))
-        is_own = lambda key: key == "after" or key == "token" and (request.is_entry() or request.op == "place")
+        names_its_map = request.op == "inc" and type(dict(whole).get("v")) is int and dict(whole)["v"] == 3
+        is_own = lambda key: key == "after" and not names_its_map or key == "token" and (request.is_entry() or request.op == "place")
         self.assertEqual(json.dumps(left), json.dumps([it for it in whole if not is_own(it[0])]))
 
     def test_cut_after_each_byte(self):
@@ -101,7 +112,7 @@ class Hostile(unittest.TestCase):
     def test_random_changes(self):
         rng = random.Random(1)
         for _ in range(20_000):
-            line = bytearray(self.LINE)
+            line = bytearray(rng.choice((self.LINE, b'{"op":"inc","v":3,"after":12,"token":"a-1","epoch":30,"up":[1, 2]}')))
             for _ in range(rng.choice((1, 1, 2, 5))):
                 at = rng.randrange(len(line))
                 what = rng.random()

@@ -90,11 +90,12 @@ class Marks(WithReplica):
 
     def test_lines_of_version_3_where_they_are_asked_for(self):
         straw2 = MAP.replace(b"{", b'{"v":3,', 1).replace(b'"uniform","items":[0,1,2]', b'"straw2","items":[0,1,2],"weights":[1,2,3]')
+        lines = [straw2, INFO % 1, b'{"op":"inc","v":3,"after":1,"epoch":9}']
         for options in ((), ("--format", "3")):
             replica = self.made(Program(STANDIN, options))
-            replica.apply([*entries_of([straw2, INFO % 1]), Entry(3, is_mark=True)])
-            kept = by_program("compact", [straw2, INFO % 1], *options)
-            self.assertEqual((len(kept), self.asked(replica)), (2 * bool(options), (3, by_program("run", [*kept, ASK], *options)[-1])))
+            replica.apply([*entries_of(lines), Entry(4, is_mark=True)])
+            kept = by_program("compact", lines, *options)
+            self.assertEqual((len(kept), self.asked(replica)), (3 * bool(options), (4, by_program("run", [*kept, ASK], *options)[-1])))
 
     def test_whoever_begins_from_the_snapshot_answers_alike(self):
         first, second = self.made(), self.made()

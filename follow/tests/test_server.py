@@ -111,6 +111,7 @@ class Answers(WithServer):
         self.follower.settings.wait = 0.5
         self.assertEqual(self.raw(b'{"op":"ask","pg":[1,0],"after":5}')[0]["refused"], "NotYet")
         self.assertEqual(self.raw(b'{"op":"close","after":5}')[0]["refused"], "NotYet")
+        self.assertEqual(self.at_and_name(self.raw(b'{"op":"inc","v":3,"after":5,"epoch":6}')), [(2, "UnknownKey")])  # of a map
 
     def test_two_logs_are_told_to_everybody(self):
         self.raw(MAP)

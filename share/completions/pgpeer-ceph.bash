@@ -13,13 +13,13 @@ _pgpeer_ceph() {
     case ${COMP_WORDS[1]} in
         fetch) choices="--ceph --pg --pool --jobs --seconds --from --to --no-groups --help" ;;
         record) choices="--every --size --rounds --ceph --pool --jobs --from --no-groups --help" ;;
-        script) choices="--pool --straw2 --ask --strict --output --pg --groups --from --to --help" ;;
+        script) choices="--pool --straw2 --keep-epochs --ask --strict --output --pg --groups --from --to --help" ;;
         explain) choices="--epochs --losses --program --help" ;;
         plan) choices="--program --help" ;;
         what-if) choices="--stop --each --program --help" ;;
         draw) choices="--epochs --program --from --to --output --help" ;;
         report) choices="--output --each --program --help" ;;
-        map) choices="--pool --straw2 --ask --strict --output --alone --help" ;;
+        map) choices="--pool --straw2 --keep-epochs --ask --strict --output --alone --help" ;;
     esac
     if [[ $word == -* ]]; then
         mapfile -t COMPREPLY < <(compgen -W "$choices" -- "$word")

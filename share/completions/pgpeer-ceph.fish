@@ -22,6 +22,7 @@ complete -c pgpeer-ceph -n '__fish_seen_subcommand_from fetch record script draw
 complete -c pgpeer-ceph -n '__fish_seen_subcommand_from fetch script draw' -x -l to -d 'the last epoch'
 complete -c pgpeer-ceph -n '__fish_seen_subcommand_from fetch record script map' -x -l pool -d 'this pool alone'
 complete -c pgpeer-ceph -n '__fish_seen_subcommand_from script map' -l straw2 -d 'carry straw2 buckets as such'
+complete -c pgpeer-ceph -n '__fish_seen_subcommand_from script map' -l keep-epochs -d 'keep the epochs of Ceph'
 complete -c pgpeer-ceph -n '__fish_seen_subcommand_from script map' -l ask -d 'append a question for each group'
 complete -c pgpeer-ceph -n '__fish_seen_subcommand_from script map' -l strict -d 'what can not be carried over is an error'
 complete -c pgpeer-ceph -n '__fish_seen_subcommand_from script map draw report' -r -s o -l output -d 'the file that is written'
