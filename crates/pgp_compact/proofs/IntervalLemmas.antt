@@ -1,5 +1,5 @@
 -- Intervals stay as the history goes on, and lie one after another.
-use Rattle.pgp_compact.proofs.Common.{AnyCode, Bool, Contains, GroupLog, HasReached, History, Incremental, LieEndToEnd, List, Membership, Past, PgId, PrimaryFacts, Some, Span, [], along, ap, ap₂, are_checked, arith, cases_Bool, cases_lt, clean_spans, contains-any, contains-filter, contains-map, contains-push, current_span, current_state, ends_at, enough_of, filter, filter-contains, front-checked, get_or-range_with_len, get_or_append_left, get_or_default, get_or_push, group_history, grown, grown-more, grown_with, history-grows, incs, inl, inr, is_by_place, is_in_span, last-checked, last_place, length-range_with_len, length_push, les, lie_end_to_end, list_any, list_any-append, map, map-contains, map_some, members_at-last_place, membership, nat_le, nat_tests, not, epochs_ascend, opening_of, opening_of-le, opening_of-opens, opening_of-stays, opens_at, or-true, passed_over, past_ending, past_ends, past_intervals, past_of, past_spans, primary_facts, range_with_len, refl, span_of, state_at, stepped, subst, suc, sym, then_with, true, wants_clean, zero, ℕ, ◌&&◌, ◌++◌, ◌+◌, ◌<◌, ◌||◌, ◌∙◌, ◌∷◌, ◌≡◌, ◌≤◌, ◌⊎◌, range-contains}
+use Rattle.pgp_compact.proofs.Common.{AnyCode, Bool, Contains, GroupLog, HasReached, History, Incremental, LieEndToEnd, List, Membership, Past, PgId, PrimaryFacts, Some, Span, [], along, ap, ap₂, are_checked, arith, cases_Bool, cases_lt, clean_spans, contains-any, contains-filter, contains-map, contains-push, current_span, current_state, ends_at, enough_of, filter, filter-contains, front-checked, get_or_append_left, get_or_default, get_or_push, group_history, grown, grown-more, grown_with, history-grows, incs, inl, inr, is_by_place, is_in_span, last-checked, last_place, length_push, les, lie_end_to_end, list_any, list_any-append, map, map-contains, map_some, members_at-last_place, membership, nat_le, nat_tests, not, epochs_ascend, opening_of, opening_of-le, opening_of-opens, opening_of-stays, opens_at, or-true, passed_over, past_ending, past_ends, past_intervals, past_of, past_spans, primary_facts, range_with_len, refl, span_of, state_at, stepped, subst, suc, sym, then_with, true, wants_clean, zero, ℕ, ◌&&◌, ◌++◌, ◌+◌, ◌<◌, ◌||◌, ◌∙◌, ◌∷◌, ◌≡◌, ◌≤◌, ◌⊎◌, range-contains}
 use Rattle.pgp_compact.proofs.SpanLemmas.{LieApart, apart-lower}
 
 -- ---- a history that goes on

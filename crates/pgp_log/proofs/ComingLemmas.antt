@@ -1,5 +1,5 @@
 -- A group comes into a log, and is absent before.
-use Rattle.pgp_log.proofs.Common.{◌≡◌, ℕ, ◌<◌, List, [], ◌∷◌, ◌++◌, Option, Some, None, Bool, true, false, nat_eq, nat_lt, option_map, length, length-append, refl, ap, sym, ◌∙◌, subst, arith, flat_map, option_map_or, false_from_ne_true, true_from_ne_false, true≢false, filter_map-append, Entry, Incremental, PgId, PoolSizes, PoolSpec, Refusal, checked-has_group, are_checked, HasGroup, epoch, map_fault, then_with, IsMapOf, with_sizes, has_group, is_same_group, OsdMap, infos-other, infos-same, reports-other, reports-same, epoch-snoc, has_group-grows, history-last, made_at-made, later_epoch, told-stays, inc_of, incs_of, group_history, makes, made_at, IsGroupOf, IsSilent, Group, entry_fault, HasInc, has_unknown_group, report_fault, same_group}
+use Rattle.pgp_log.proofs.Common.{◌≡◌, ℕ, ◌<◌, List, [], ◌∷◌, ◌++◌, Option, Some, None, Bool, true, false, nat_eq, nat_lt, option_map, length, length-append, refl, ap, sym, ◌∙◌, arith, flat_map, option_map_or, false_from_ne_true, true_from_ne_false, true≢false, filter_map-append, Entry, Incremental, PgId, PoolSizes, PoolSpec, Refusal, checked-has_group, are_checked, HasGroup, epoch, map_fault, then_with, IsMapOf, with_sizes, has_group, is_same_group, OsdMap, infos-other, infos-same, reports-other, reports-same, epoch-snoc, has_group-grows, made_at-made, told-stays, inc_of, incs_of, group_history, makes, made_at, IsGroupOf, IsSilent, Group, entry_fault, HasInc, has_unknown_group, report_fault, same_group}
 use Rattle.pgp_ids.specs.declared.entry.Entry.TheVariants as entry
 use Rattle.pgp_ids.specs.declared.member.Member.{Member}
 use Rattle.pgp_map.specs.Last.{last_where}

@@ -1,5 +1,5 @@
 -- What an incremental touches, and what it changes at all.
-use Rattle.pgp_log.proofs.Common.{◌≡◌, ℕ, List, [], ◌∷◌, ◌++◌, Bool, true, false, not, ◌||◌, map, length, refl, sym, ap, ◌∙◌, arith, list_any, ◌==◌, not-false, not-true, or_parts, true_from_ne_false, true≢false, nat_tests, list_any-append, and3_parts, Entry, DeviceEpoch, Incremental, PgId, temp, may_place_elsewhere, untouched-unmoved, unplaced, incs_of, changed_devices, changes_pool, changes_temp, is_touched, may_lie_on, may_move, moves_all, turned_devices, changes_no_pool, changes_nothing, changes_placements, moves_none, tells_nothing, turns_none}
+use Rattle.pgp_log.proofs.Common.{◌≡◌, ℕ, List, [], ◌∷◌, ◌++◌, Bool, true, false, not, ◌||◌, map, length, refl, sym, ap, ◌∙◌, arith, list_any, ◌==◌, not-false, not-true, or_parts, true_from_ne_false, true≢false, nat_tests, list_any-append, and3_parts, Entry, DeviceEpoch, Incremental, PgId, may_place_elsewhere, untouched-unmoved, unplaced, incs_of, changed_devices, changes_pool, changes_temp, is_touched, may_lie_on, may_move, moves_all, turned_devices, changes_no_pool, changes_nothing, changes_placements, moves_none, tells_nothing, turns_none}
 use Rattle.pgp_ids.specs.declared.entry.Entry.TheVariants as entry
 use Rattle.pgp_group.proofs.Lists.{any-mapped}
 

@@ -1,4 +1,4 @@
-use Rattle.pgp_shard.proofs.Common.{◌≡◌, Some, sym, ap, ◌∙◌, subst, option_map, on_ok_weaker, incs_of, primary_facts, IsGroupOf, reaching, Group, KeptGroup}
+use Rattle.pgp_shard.proofs.Common.{◌≡◌, Some, sym, ap, ◌∙◌, option_map, on_ok_weaker, incs_of, primary_facts, IsGroupOf, reaching, Group, KeptGroup}
 use Rattle.pgp_shard.proofs.KeptLemmas.{group-still, kept-moved, kept-there}
 use Rattle.pgp_shard.proofs.kept_group.KeptGroup.move_on.Goals as goal
 
