@@ -66,6 +66,13 @@ impl Tree {
         })
     }
 
+    /// Its buckets, in the order in which they were given.
+    pub fn buckets(&self) -> &[BucketSpec]
+        ensures { map bucket_of result.now ≡ self.now }
+    {
+        &self.buckets
+    }
+
     /// The bucket that none holds.
     pub(crate) fn root(&self) -> &BucketSpec
         ensures value { Some (bucket_of result.now) ≡ root_of self.now }

@@ -4,7 +4,7 @@ ghost use Rattle.pgp_ids.specs.Bucket.{weight_count};
 use super::seq::Seq;
 
 /// How a bucket chooses one of its items (CRUSH's bucket types).
-#[derive(Clone, Copy, Debug)]
+#[derive(Clone, Copy, Debug, PartialEq, Eq)]
 pub enum BucketAlg {
     /// All items are equally likely.
     Uniform,
@@ -15,7 +15,7 @@ pub enum BucketAlg {
 }
 
 /// One bucket of a placement tree, as a map incremental gives it.
-#[derive(Debug, Drop)]
+#[derive(Debug, PartialEq, Eq, Drop)]
 pub struct BucketSpec {
     /// -65536 to -1.
     pub id: i32,

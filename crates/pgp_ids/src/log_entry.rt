@@ -5,7 +5,7 @@ use super::object_name::ObjectName;
 use super::version::Version;
 
 /// What a write did to an object.
-#[derive(Clone, Copy, Debug)]
+#[derive(Clone, Copy, Debug, PartialEq, Eq)]
 pub enum Change {
     /// It made the object or changed it.
     Modify,
@@ -25,7 +25,7 @@ impl Change {
 }
 
 /// One entry of a group's log.
-#[derive(Debug, Drop)]
+#[derive(Debug, PartialEq, Eq, Drop)]
 pub struct LogEntry {
     pub version: Version,
     pub change: Change,

@@ -6,7 +6,7 @@ ghost use Rattle.pgp_ids.specs.Parts.{set_of, has_twice, is_part, is_apart};
 use super::slots::{SLOT_LIMIT, SlotSet};
 
 /// A part of a grouped code: of these slots at least `least` have to be at hand.
-#[derive(Clone, Copy, Debug)]
+#[derive(Clone, Copy, Debug, PartialEq, Eq)]
 pub struct Part {
     pub slots: SlotSet,
     /// In a part that a map takes it is 1 to the number of the slots.

@@ -10,7 +10,7 @@ pub const MAX_PARTS: usize = 16;
 
 /// The parts of a grouped code, each in one of 16 places, so that the kind of a pool is copied without memory. A place that
 /// holds no part is `None`. Contracts see the list of the places.
-#[derive(Clone, Copy, Debug)]
+#[derive(Clone, Copy, Debug, PartialEq, Eq)]
 pub struct Parts {
     places: [Option<Part>; MAX_PARTS],
 }

@@ -5,7 +5,7 @@ use super::parts::Parts;
 use super::pool_id::PoolId;
 
 /// How a pool keeps its objects.
-#[derive(Clone, Copy, Debug)]
+#[derive(Clone, Copy, Debug, PartialEq, Eq)]
 pub enum PoolKind {
     /// Each member of a group has a whole copy.
     Replicated,
@@ -35,7 +35,7 @@ impl PoolKind {
 }
 
 /// A pool, as the map incremental that makes it tells of it. The ranges are those of a pool that a map takes.
-#[derive(Clone, Copy, Debug)]
+#[derive(Clone, Copy, Debug, PartialEq, Eq)]
 pub struct PoolSpec {
     pub id: PoolId,
     /// How many placement groups it has, 1 to 1,024.

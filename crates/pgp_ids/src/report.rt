@@ -29,7 +29,7 @@ pub struct Info {
 }
 
 /// Entries of a member's log of a group.
-#[derive(Debug, Drop)]
+#[derive(Debug, PartialEq, Eq, Drop)]
 pub struct Report {
     pub pg: PgId,
     /// Who sent it.

@@ -1,4 +1,6 @@
-ghost use Rattle.std.specs.Prelude.{◌≡◌, ℕ, ◌<◌, ◌^◌, List, [], length};
+ghost use Rattle.std.specs.Prelude.{◌≡◌, ℕ, ◌<◌, ◌^◌, List, [], length, nat_eq};
+ghost use Rattle.std.specs.Cmp.{partial_equiv_from_equiv};
+ghost use Rattle.std.specs.Cmp.Lexicographic.{pointwise, nat_list_eq_equiv};
 ghost use Rattle.pgp_ids.specs.SlotSet.{has_slot, with_slot, is_within, common, is_below};
 
 use std::marker::Model;
@@ -6,8 +8,7 @@ use std::marker::Model;
 /// Slots are numbered from 0 to one below this.
 pub const SLOT_LIMIT: u8 = 32;
 
-/// A set of slots, each below [`SLOT_LIMIT`]. Contracts see it as the list of its slots in ascending order. It has no `==`:
-/// code asks `within` in both directions.
+/// A set of slots, each below [`SLOT_LIMIT`]. Contracts see it as the list of its slots in ascending order.
 #[derive(Clone, Copy, Debug)]
 pub struct SlotSet {
     bits: u32,
@@ -26,6 +27,20 @@ impl Model for SlotSet {
     ghost inverse = { λ slots. record { bits = bits_of slots } };
 
     ghost inverse_ok = { λ s fits. bits_of-slots_of s fits };
+}
+
+impl PartialEq for SlotSet {
+    ghost eq = { pointwise nat_eq };
+
+    ghost laws = { partial_equiv_from_equiv nat_list_eq_equiv };
+
+    fn eq(&self, other: &SlotSet) -> bool {
+        self.bits == other.bits
+    }
+}
+
+impl Eq for SlotSet {
+    ghost laws = { nat_list_eq_equiv };
 }
 
 impl SlotSet {

@@ -6,3 +6,4 @@ pub mod NumberSetLemmas
 pub mod RepeatLemmas
 pub mod CheckLemmas
 pub mod CheckedLemmas
+pub mod AlikeLemmas

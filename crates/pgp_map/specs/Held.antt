@@ -1,6 +1,7 @@
 -- What a map itself says of its devices and pools. The map of a list of incrementals says what the list says (HeldLaws).
-use Rattle.std.specs.Prelude.{◌≡◌, ℕ, Bool, true, false, ◌&&◌, nat_eq, nat_lt, nat_le, Option}
+use Rattle.std.specs.Prelude.{◌≡◌, ℕ, Bool, true, false, ◌&&◌, nat_eq, nat_lt, nat_le, List, map as map_list, Option}
 use Rattle.std.specs.HashMap as hash
+use Rattle.std.specs.List.{range_with_len}
 use Rattle.std.specs.Option.{option_map_or}
 use Rattle.pgp_ids.specs.declared.pg_id.PgId.{PgId}
 use Rattle.pgp_ids.specs.declared.pool.PoolSpec.{PoolSpec}
@@ -22,6 +23,10 @@ held_lost_at map osd = (device_at map.devices osd).lost_at
 -- the pool that the map has under this id
 unfoldable pub held_pool : OsdMap → ℕ → Option PoolSpec
 held_pool map id = hash.get nat_eq map.pools id
+
+-- the groups of the pool, where the map has it
+abbrev pub held_groups : OsdMap → ℕ → List PgId
+held_groups map id = map_list (λ pg. record { pool = id; pg = pg }) (range_with_len 0 (option_map_or (λ made. made.pg_num) (held_pool map id) 0))
 
 -- the pool has this group, and its size is at most 16
 abbrev pub is_group_of : PgId → PoolSpec → Bool

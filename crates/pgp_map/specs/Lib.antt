@@ -1,4 +1,6 @@
 pub mod Last
+pub mod Alike
+pub mod Same
 pub mod Devices
 pub mod Pools
 pub mod Map

@@ -10,6 +10,7 @@
 //! names for what a map has (`Says`, `HasGroup`, `held_up` and their like). [`laws`] has worked examples.
 #![tactic(auto)]
 
+mod alike;
 mod fault;
 mod findings;
 pub mod laws;
@@ -26,3 +27,4 @@ mod weights;
 
 pub use fault::MapFault;
 pub use map::OsdMap;
+pub use trees::copied_buckets;

@@ -1,17 +1,24 @@
 //! The cluster map.
 
-ghost use Rattle.std.specs.Prelude.{◌≡◌, ◌≤◌, [], true, Some, None, Err, OnOk, OnErr, IfOk, IfErr, ◌⊎◌, option_copied, option_map, map, length, false};
+ghost use Rattle.std.specs.Prelude.{◌≡◌, ◌≤◌, [], true, Some, None, Err, OnOk, OnErr, IfOk, IfErr, ◌++◌, ◌⊎◌, option_copied, option_map, map, length, false};
+ghost use Rattle.std.specs.Bool.{Decides};
+ghost use Rattle.std.specs.List.{Contains};
+ghost use Rattle.pgp_ids.specs.declared.pg_id.PgId.{PgId as Group};
 ghost use Rattle.pgp_crush.specs.Bucket.{bucket_of};
+ghost use Rattle.pgp_map.specs.Alike.{SayTheSame};
 ghost use Rattle.pgp_map.specs.Room.{HasRoom};
 ghost use Rattle.pgp_map.specs.Memory.{is_filled, MayLackMemory, may_grow};
 ghost use Rattle.pgp_map.specs.MapOf.{IsMapOf, Says};
-ghost use Rattle.pgp_map.specs.Held.{held_exists, held_up, held_lost_at, held_pool};
+ghost use Rattle.pgp_map.specs.Held.{held_exists, held_groups, held_up, held_lost_at, held_pool};
 ghost use Rattle.pgp_map.specs.Devices.{exists, is_up, up_from, down_at, up_thru, lost_at, weight, weights};
 ghost use Rattle.pgp_map.specs.Pools.{has_group, pool, temp};
 ghost use Rattle.pgp_map.specs.Map.{epoch, tree};
 ghost use Rattle.pgp_map.specs.MapFault.{map_fault, given_fault, then_with, has_epoch_gap, has_unknown_device, has_lost_up, has_still_up, has_ahead, has_bad_pool, has_pool_known, has_bad_temp};
 ghost use Rattle.pgp_map.specs.Findings.{AreFindings};
 
+use super::alike::{
+    are_devices_alike, are_pools_alike, are_temps_alike, are_trees_alike, are_weights_alike,
+};
 use super::fault::MapFault;
 use super::findings::Findings;
 use super::searched_devices::SearchedDevices;
@@ -287,6 +294,30 @@ impl OsdMap {
         }
     }
 
+    /// All groups, those of a pool in a row.
+    pub fn groups(&self) -> Result<Vec<PgId>, AllocError>
+        ensures { IfOk result (λ groups. Says self.now (λ incs. (pg : Group) → has_group incs pg ≡ true → Contains groups.items pg)) }
+    {
+        let mut groups = Vec::new(self.alloc);
+        for id in self.pools.keys() {
+            self.put_groups(*id, &mut groups)?;
+        }
+        Ok(groups)
+    }
+
+    /// Puts the groups of a pool behind `groups`.
+    fn put_groups(&self, id: PoolId, groups: &mut Vec<PgId>) -> Result<(), AllocError>
+        ensures { OnOk result (groups.new.items ≡ groups.old.items ++ held_groups self.now id) }
+    {
+        let Some(pool) = self.pool(id) else {
+            return Ok(());
+        };
+        for pg in 0..pool.pg_num {
+            groups.push(PgId { pool: id, pg })?;
+        }
+        Ok(())
+    }
+
     /// The group's pg_temp list; empty if it has none.
     pub fn temp(&self, pg: PgId) -> &[Place]
         ensures within { length result.now ≤ MAX_OSDS }
@@ -311,6 +342,18 @@ impl OsdMap {
         ensures { Says self.now (λ incs. option_copied result ≡ tree incs) }
     {
         self.tree.as_ref()
+    }
+
+    /// Whether both maps say the same of all that entries and views read of them, their epochs aside.
+    pub fn says_the_same(&self, other: &OsdMap) -> bool
+        ensures { Says self.now (λ incs. Says other.now (λ others. Decides result (SayTheSame incs others))) }
+    {
+        are_devices_alike(&self.devices, &other.devices)
+            && are_weights_alike(&self.weights, &other.weights)
+            && are_pools_alike(&self.pools, &other.pools)
+            && are_temps_alike(&self.temps, &other.temps)
+            && are_trees_alike(self.tree(), other.tree())
+            && self.group_count == other.group_count
     }
 }
 

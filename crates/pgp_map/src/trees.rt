@@ -18,7 +18,7 @@ pub(crate) fn tree_of(alloc: Global, buckets: &[BucketSpec]) -> Result<Tree, Tre
     ensures fault { IfErr result (λ fault. (fault ≡ TreeFault.Memory) ⊎ (tree_fault (map bucket_of buckets.now) ≡ Some fault)) }
     ensures wants { result ≡ Err TreeFault.Memory → is_filled buckets.now ≡ true }
 {
-    let copies = copies_of(alloc, buckets)?;
+    let copies = copied_buckets(alloc, buckets)?;
     Tree::check(alloc, copies)
 }
 
@@ -61,7 +61,7 @@ pub(crate) fn given_tree(
 
 /// Copies of these buckets.
 #[tactic(auto, using(std::proofs::lemmas::Bool::Decides::nat_tests))]
-fn copies_of(alloc: Global, buckets: &[BucketSpec]) -> Result<Vec<BucketSpec>, AllocError>
+pub fn copied_buckets(alloc: Global, buckets: &[BucketSpec]) -> Result<Vec<BucketSpec>, AllocError>
     ensures ok { IfOk result (λ copies. map bucket_of copies.items ≡ map bucket_of buckets.now) }
     ensures wants { OnErr result (is_filled buckets.now ≡ true) }
 {
