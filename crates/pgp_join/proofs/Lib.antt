@@ -4,3 +4,5 @@ pub mod StepLemmas
 pub mod FollowLemmas
 pub mod AnswerLemmas
 pub mod PassedLemmas
+mod SameLemmas
+mod CheckLemmas

@@ -17,7 +17,8 @@ use Rattle.pgp_map.proofs.FaultLemmas.{no_fault}
 use Rattle.pgp_map.proofs.MapLemmas.{IsUnsized, epoch-push, made_in, pool-push, sizes-push, sizes_in, temp-push, tree-push, weight-push}
 use Rattle.pgp_group.proofs.DeviceLemmas.{up_from-within}
 use Rattle.pgp_group.proofs.GrowthLemmas.{later_epoch}
-use Rattle.pgp_join.specs.Alike.{AreAlikeMaps, SayTheSame, read_of}
+use Rattle.pgp_map.specs.Alike.{SayTheSame, read_of}
+use Rattle.pgp_join.specs.Alike.{AreAlikeMaps}
 
 -- ---- a device
 

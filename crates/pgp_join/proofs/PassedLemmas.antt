@@ -23,7 +23,8 @@ use Rattle.pgp_log.proofs.TakeLemmas.{faultless-inc, fits-faultless, fits-open_l
 use Rattle.pgp_log.specs.Fits.{entry_fault, fits, is_close}
 use Rattle.pgp_log.specs.Log.{is_legal}
 use Rattle.pgp_log.specs.Touch.{changes_nothing}
-use Rattle.pgp_join.specs.Alike.{AreAlike, AreAlikeMaps, IsAlike, SayTheSame, ending_from, read_of}
+use Rattle.pgp_map.specs.Alike.{SayTheSame, read_of}
+use Rattle.pgp_join.specs.Alike.{AreAlike, AreAlikeMaps, IsAlike, ending_from}
 use Rattle.pgp_join.proofs.MapLemmas.{count-more, fault-same, next-same, pool-more}
 use Rattle.pgp_join.proofs.StepLemmas.{Comes, inc-alike, past-on}
 use Rattle.pgp_join.proofs.ViewLemmas.{members-alike}

@@ -17,7 +17,8 @@ use Rattle.pgp_log.proofs.ComingLemmas.{comes-with_pool}
 use Rattle.pgp_log.proofs.TakeLemmas.{incs-inc, incs-other}
 use Rattle.pgp_log.specs.Fits.{entry_fault}
 use Rattle.pgp_log.specs.ReportFault.{has_bad_entries, has_bad_info, is_slot_of, report_fault}
-use Rattle.pgp_join.specs.Alike.{AgreeOn, AreAlikeMaps, IsAlike, SayTheSame, ending_from}
+use Rattle.pgp_map.specs.Alike.{SayTheSame}
+use Rattle.pgp_join.specs.Alike.{AgreeOn, AreAlikeMaps, IsAlike, ending_from}
 use Rattle.pgp_join.proofs.MapLemmas.{exists-alike, fault-alike, from-alike, has_group-alike, next-alike, next-same, thru-alike}
 use Rattle.pgp_join.proofs.ViewLemmas.{code-is, current-is, ending-alike, members-alike}
 

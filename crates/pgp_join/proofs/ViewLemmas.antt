@@ -15,7 +15,8 @@ use Rattle.pgp_sets.specs.Sets.{placement_input, rule_of}
 use Rattle.pgp_sets.specs.Status.{status_by}
 use Rattle.pgp_group.specs.Prefers.{prefers}
 use Rattle.pgp_group.proofs.HistoryLemmas.{history_if, history-current}
-use Rattle.pgp_join.specs.Alike.{SayTheSame, IsAlike, IsAlikeView, ending_from}
+use Rattle.pgp_map.specs.Alike.{SayTheSame}
+use Rattle.pgp_join.specs.Alike.{IsAlike, IsAlikeView, ending_from}
 use Rattle.pgp_join.proofs.MapLemmas.{exists-alike, from-alike, lost-alike, thru-alike, up-alike}
 
 -- ---- where a group lies

@@ -9,10 +9,8 @@ use Rattle.pgp_ids.specs.declared.pg_id.PgId.{PgId}
 use Rattle.pgp_ids.specs.declared.view.View.{View}
 use Rattle.pgp_interval.specs.History.{History}
 use Rattle.pgp_interval.specs.Runs.{current_first}
-use Rattle.pgp_map.specs.Devices.{device, weight}
-use Rattle.pgp_map.specs.Map.{epoch, tree}
-use Rattle.pgp_map.specs.Pools.{group_count, pool, temp}
-use Rattle.pgp_tables.specs.declared.device.Device.{Device}
+use Rattle.pgp_map.specs.Alike.{SayTheSame}
+use Rattle.pgp_map.specs.Map.{epoch}
 use Rattle.pgp_group.specs.Entries.{incs_of, infos_of, reports_of}
 use Rattle.pgp_group.specs.GroupHistory.{group_history}
 use Rattle.pgp_group.specs.GroupLog.{GroupLog, group_with}
@@ -21,20 +19,7 @@ use Rattle.pgp_group.specs.Peering.{past}
 use Rattle.pgp_log.specs.Fits.{is_closed}
 use Rattle.pgp_log.specs.Log.{is_legal}
 
--- what is read of a device: not when it went down, nor when it booted where it is down
-abbrev pub read_of : Device → Device
-read_of d = record d { up_from = if d.is_up then d.up_from else 0; down_at = 0 }
-
--- the maps that these make say the same of all that is read, their epochs aside
-pub record SayTheSame (incs others : List Incremental) : Type 0 where
-  pub devices_are : (osd : ℕ) → read_of (device others osd) ≡ read_of (device incs osd)
-  pub weight_is : (osd : ℕ) → weight others osd ≡ weight incs osd
-  pub pool_is : (id : ℕ) → pool others id ≡ pool incs id
-  pub temp_is : (pg : PgId) → temp others pg ≡ temp incs pg
-  pub tree_is : tree others ≡ tree incs
-  pub count_is : group_count others ≡ group_count incs
-
--- they have the same epoch too
+-- the maps have the same epoch, and say the same
 pub record AreAlikeMaps (incs others : List Incremental) : Type 0 where
   pub epoch_is : epoch others ≡ epoch incs
   pub says : SayTheSame incs others
@@ -49,13 +34,29 @@ pub record IsAlike (g other : GroupLog) : Type 0 where
   pub first_is : current_first other.history ≡ current_first g.history
   pub past_are : ending_from (les g) (past other) ≡ ending_from (les g) (past g)
 
+-- the group is alike in both logs, where both maps have it
+abbrev pub IsGroupAlike : (log other : List Entry) → PgId → Type 0
+IsGroupAlike log other pg = (h now : History AnyCode) → group_history (incs_of log) pg ≡ Some h → group_history (incs_of other) pg ≡ Some now
+    → IsAlike (group_with log pg h) (group_with other pg now)
+
+-- both have the same infos, and the same reports of log entries, in the same order
+abbrev pub HaveSameReports : (log other : List Entry) → Type 0
+HaveSameReports log other = (infos_of other ≡ infos_of log) × (reports_of other ≡ reports_of log)
+
+-- both are closed, or open, and the other one is no longer than the first
+abbrev pub HaveSameEnds : (log other : List Entry) → Type 0
+HaveSameEnds log other = (is_closed other ≡ is_closed log) × (length other ≤ length log)
+
+-- the logs agree in all but what they say of groups
+abbrev pub AgreeApart : (log other : List Entry) → Type 0
+AgreeApart log other = HaveSameEnds log other × AreAlikeMaps (incs_of log) (incs_of other) × HaveSameReports log other
+
 -- The logs have the same reports in the same order and maps that are alike, and each group is alike in both.
 pub record AgreeOn (log other : List Entry) : Type 0 where
   pub maps_are : AreAlikeMaps (incs_of log) (incs_of other)
   pub infos_are : infos_of other ≡ infos_of log
   pub reports_are : reports_of other ≡ reports_of log
-  pub groups_are : (pg : PgId) (h now : History AnyCode) → group_history (incs_of log) pg ≡ Some h → group_history (incs_of other) pg ≡ Some now
-      → IsAlike (group_with log pg h) (group_with other pg now)
+  pub groups_are : (pg : PgId) → IsGroupAlike log other pg
 
 -- Both are legal besides, closed or open alike, and the other one is no longer than the first.
 pub record AreAlike (log other : List Entry) : Type 0 where

@@ -5,4 +5,16 @@
 //! whatever entries come. So incrementals may be left out and others pass over their epochs. It makes no such log itself.
 #![tactic(auto)]
 
+mod alike;
 pub mod laws;
+mod line;
+mod lives;
+mod made;
+mod named;
+mod pieces;
+mod reports;
+mod starts;
+
+pub use alike::are_alike;
+pub use line::inc_line;
+pub use pieces::{Piece, pieces_of};
