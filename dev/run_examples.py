@@ -8,7 +8,8 @@ with examples/NAME.answers.jsonl, and with `--format 3` where examples/NAME.form
 `explain 1.0 --json` what stands in examples/NAME.explain.json; with `--losses` what stands in examples/NAME.losses.txt and
 examples/NAME.losses.json; and `explain` and `explain --json` what stands in examples/NAME.summary.txt and
 examples/NAME.summary.json. Where examples/NAME.compacted.jsonl is there, `compact` has to
-write just that of the script, and of itself; with `--format 3` where it is examples/NAME.format3.compacted.jsonl. Of docs/FORMAT.md each line of JSON that stands indented by four is run as the
+write just that of the script, and of itself; with `--format 3` where it is examples/NAME.format3.compacted.jsonl. Where examples/NAME.joined.jsonl is there,
+`compact --join` has to write just that of the script. Of docs/FORMAT.md each line of JSON that stands indented by four is run as the
 line after examples/first.jsonl, whose map it speaks of: it may be answered neither as no command nor by a fault of its line,
 but where the next indented line is its answer, and then that has to be it. Exits with 1 where an answer differs.
 """
@@ -67,6 +68,12 @@ def compactions():
         yield wanted, wanted, words
 
 
+def joins():
+    """Gives each script whose incrementals are there joined too, with what is written of it."""
+    for wanted in sorted((ROOT / "examples").glob("*.joined.jsonl")):
+        yield wanted.with_name(wanted.name.replace(".joined", "")), wanted
+
+
 def is_answer(line):
     """Tells whether the line of JSON is an answer and no command."""
     return "op" not in json.loads(line)
@@ -118,6 +125,9 @@ def main(program):
     for script, wanted, words in compactions():
         tried += 1
         wrong.append((f"{script.name}, compacted", wrong_example(program, script, wanted, *words)))
+    for script, wanted in joins():
+        tried += 1
+        wrong.append((wanted.name, wrong_example(program, script, wanted, "compact", "--join")))
     before = (ROOT / "examples" / "first.jsonl").read_bytes()
     for line, wanted in documented():
         tried += 1

@@ -50,7 +50,7 @@ LIBRARY = {
     "lib/cmake/pgpeer/pgpeer-config-version.cmake": 0o644,
     "share/man/man3/pgpeer.3": 0o644,
 }
-OPTIONS = {"run": {"--shards", "--workers", "--format"}, "explain": {"--json", "--losses", "--epoch-offset", "--format"}, "compact": {"--format"}}
+OPTIONS = {"run": {"--shards", "--workers", "--format"}, "explain": {"--json", "--losses", "--epoch-offset", "--format"}, "compact": {"--join", "--format"}}
 SUBCOMMANDS = {*OPTIONS, "help"}
 OPTION = re.compile(r"(?<![\w-])--[a-z][a-z0-9-]*")
 VERBS = ("fetch", "record", "script", "explain", "plan", "what-if", "draw", "report", "map")

@@ -7,7 +7,7 @@ _pgpeer() {
     case ${COMP_WORDS[1]} in
         run) choices="--shards --workers --format --help" ;;
         explain) choices="--losses --json --epoch-offset --format --help" ;;
-        compact) choices="--format --help" ;;
+        compact) choices="--join --format --help" ;;
         help) choices="run explain compact" ;;
         *) choices="run explain compact help --help --version" ;;
     esac

@@ -11,5 +11,6 @@ complete -c pgpeer -n '__fish_seen_subcommand_from run' -x -l workers -d 'how ma
 complete -c pgpeer -n '__fish_seen_subcommand_from explain' -l losses -d 'name devices to declare lost, too'
 complete -c pgpeer -n '__fish_seen_subcommand_from explain' -l json -d 'write one line of JSON in place of words'
 complete -c pgpeer -n '__fish_seen_subcommand_from explain' -x -l epoch-offset -d 'add a number to each epoch but 0'
+complete -c pgpeer -n '__fish_seen_subcommand_from compact' -l join -d 'join incrementals that no answer tells apart'
 complete -c pgpeer -n '__fish_seen_subcommand_from run explain compact' -x -l format -d 'up to which version lines are read, 2 or 3'
 complete -c pgpeer -n '__fish_seen_subcommand_from help' -a 'run explain compact'

@@ -2,6 +2,7 @@
 use Rattle.std.specs.Prelude.{◌≡◌, ◌⊎◌, List, ℕ, Bool, true, Option}
 use Rattle.std.specs.Io.KnownBytes.{Appends}
 use Rattle.pgp_whole.specs.Compaction.{IsCompacted, IsCompactedInPart}
+use Rattle.pgp_whole.specs.Joining.{IsJoined, IsJoinedInPart}
 use Rattle.pgp_whole.specs.declared.compact.Compaction.{Compaction}
 use Rattle.pgp_lines.specs.declared.command.format.Format.{Format}
 use Rattle.pgp_core.specs.Account.{Account, NoCallFailed}
@@ -38,6 +39,12 @@ pub record CompactIsDone (before after : Account) : Type 0 where
   pub compacted : IsCompacted format counts before.remaining after.remaining before.contents after.contents
   pub quiet : NoCallFailed before after
 
+-- the writer got lines that stand for those, where incrementals are joined, and no call failed
+pub record JoinIsDone (before after : Account) : Type 0 where
+  pub counts : Compaction
+  pub joined : IsJoined counts before.remaining after.remaining before.contents after.contents
+  pub quiet : NoCallFailed before after
+
 -- what help or a message about the words did to the writer, by how that ended: a text of help was written; nothing was; or a
 -- first part of help, where a write failed
 abbrev pub HasShown : Ending → (old new : Option (List ℕ)) → (failed_before failed_after : Bool) → Type 0
@@ -51,17 +58,19 @@ pub record HelpIsShown (before after : Account) : Type 0 where
   pub unread : after.remaining ≡ before.remaining
   pub quiet : after.read_failed ≡ before.read_failed
 
--- a write failed: a first part went out of what a log says of a group or of all, of the lines that remain of a script, or of help
+-- a write failed: a first part went out of what a log says of a group or of all, of the lines that remain of a script or stand for these,
+-- or of help
 pub record IsCut (before after : Account) : Type 0 where
   pub part : ((asked : Question) × IsExplainedInPart asked before.remaining after.remaining before.contents after.contents)
       ⊎ (((format : Format) × IsCompactedInPart format before.remaining after.remaining before.contents after.contents after.write_failed)
-      ⊎ ((text : List ℕ) × FrontWent before.contents after.contents text))
+      ⊎ (IsJoinedInPart before.remaining after.remaining before.contents after.contents after.write_failed
+      ⊎ ((text : List ℕ) × FrontWent before.contents after.contents text)))
   pub failed : after.write_failed ≡ true
 
 -- What the program did: one thing to its end (`Done`); nothing (`Usage`); or, where a fault ended it, a run as far as
 -- it came, nothing that was written, or a part that a failed write cut off.
 abbrev pub HasEnded : Ending → (before after : Account) → Type 0
 HasEnded Done before after =
-    RunIsDone before after ⊎ (ExplainIsDone before after ⊎ (CompactIsDone before after ⊎ HelpIsShown before after))
+    RunIsDone before after ⊎ (ExplainIsDone before after ⊎ (CompactIsDone before after ⊎ (JoinIsDone before after ⊎ HelpIsShown before after)))
 HasEnded Usage before after = after ≡ before
 HasEnded Fault before after = RunIsStopped before after ⊎ ((after.contents ≡ before.contents) ⊎ IsCut before after)

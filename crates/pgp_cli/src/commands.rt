@@ -62,8 +62,14 @@ says how many entries were left out. A run of what is written, and of any lines
 behind it, gives the same answers, with two exceptions: each count is less, and a
 log that was full may have room.
 
-Example:
+With --join map incrementals that no answer tells apart become one, which passes
+over their epochs: a line of version 3. Lines up to version 3 are read, and what is
+written has to be read with --format 3. Past intervals that ended before a group
+last began to serve may be missing in its answers then.
+
+Examples:
   pgpeer compact < script.jsonl > shorter.jsonl
+  pgpeer compact --join < script.jsonl > shortest.jsonl
 
 Exit status:
   0  the script was read to its end, and what remains of it was written
@@ -85,6 +91,9 @@ const LOSSES_HELP: &str =
     "Also says, of a group, what ends Down by declaring devices lost: the last resort";
 
 const JSON_HELP: &str = "Writes one line of JSON in place of words";
+
+const JOIN_HELP: &str =
+    "Also joins map incrementals that no answer tells apart, by lines of version 3";
 
 const OFFSET_HELP: &str =
     "Adds N, 0 to 4294967295, to each epoch that is written, except to 0 [default: 0]";
@@ -143,13 +152,18 @@ fn explain<'a>(alloc: Global) -> Result<Command<'a>, AllocError> {
         .arg(count(alloc, "format", FORMAT_HELP))
 }
 
-/// `compact [--format N]`
+/// `compact [--join] [--format N]`
 fn compact<'a>(alloc: Global) -> Result<Command<'a>, AllocError> {
+    let join = Arg::new(alloc, "join")
+        .long("join")
+        .action(ArgAction::SetTrue)
+        .help(JOIN_HELP);
     Command::new(alloc, "compact")
         .about(
             "Reads a script from standard input and writes it without reports that no answer needs",
         )
         .after_help(COMPACT_HELP)
+        .arg(join)?
         .arg(count(alloc, "format", FORMAT_HELP))
 }
 

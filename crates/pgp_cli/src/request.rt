@@ -28,6 +28,9 @@ const WRONG_OFFSET: &str = "--epoch-offset takes a number from 0 to 4294967295";
 /// Why the number of `--format` is refused.
 const WRONG_FORMAT: &str = "--format takes 2 or 3";
 
+/// Why `--join` is refused.
+const WRONG_JOIN: &str = "--join writes lines of version 3, so it goes with --format 3";
+
 /// Why words are refused that ask for something else than a run.
 const NO_RUN: &str = "run is to be the first word";
 
@@ -65,6 +68,8 @@ pub struct ExplainOptions {
 pub struct CompactOptions {
     /// Up to which version lines are read.
     pub format: Format,
+    /// Whether incrementals are joined too: then it is version 3.
+    pub join: bool,
 }
 
 /// What the words of a command line ask for.
@@ -152,9 +157,17 @@ fn format(text: Option<&str>) -> Option<Format> {
 
 /// What the words after `compact` ask for.
 fn compact_options(alloc: Global, compact: &ArgMatches) -> Result<CompactOptions, Error> {
-    match format(compact.get_str("format")) {
-        Some(format) => Ok(CompactOptions { format }),
-        None => Err(compact_error(alloc, ErrorKind::ValueValidation, WRONG_FORMAT)?),
+    let join = compact.get_flag("join");
+    match (format(compact.get_str("format")), join) {
+        (Some(Format::Two), true) if compact.get_str("format").is_none() => Ok(CompactOptions {
+            format: Format::Three,
+            join,
+        }),
+        (Some(Format::Two), true) => {
+            Err(compact_error(alloc, ErrorKind::ArgumentConflict, WRONG_JOIN)?)
+        }
+        (Some(format), join) => Ok(CompactOptions { format, join }),
+        (None, _) => Err(compact_error(alloc, ErrorKind::ValueValidation, WRONG_FORMAT)?),
     }
 }
 

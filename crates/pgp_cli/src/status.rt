@@ -11,7 +11,7 @@ use super::request::{CompactOptions, ExplainOptions, Request, RunOptions, read_r
 use super::streams::Counted;
 use super::tell::{help_or_usage, report_fault, report_left_out};
 use pgp_core::{ScriptFault, Sink, run_script};
-use pgp_whole::{compact_script, explain};
+use pgp_whole::{compact_script, explain, join_script};
 use std::alloc::Global;
 use std::io::Write;
 use std::sync::Wait;
@@ -38,6 +38,7 @@ pub fn status_of<R: Counted, W: Sink, E: Write, T: Threads + Wait + Sync>(
     match read_request(alloc, words) {
         Ok(Request::Run(options)) => run(rt, alloc, options, reader, writer, errors),
         Ok(Request::Explain(options)) => explain_script(alloc, &options, reader, writer, errors),
+        Ok(Request::Compact(options)) if options.join => join(alloc, reader, writer, errors),
         Ok(Request::Compact(options)) => compact(alloc, options, reader, writer, errors),
         Err(error) => help_or_usage(alloc, &error, words, writer, errors),
     }
@@ -134,6 +135,27 @@ fn compact<R: Counted, W: Sink, E: Write>(
     ensures passed_on { result ≡ Ending.Done → (W.state writer.new).passed_on ≡ true }
 {
     match compact_script(alloc, options.format, reader, writer) {
+        Ok(counts) => {
+            report_left_out(&counts, errors);
+            Ending::Done
+        }
+        Err(why) => report_fault(Fault::of_compact(why, reader), errors),
+    }
+}
+
+/// Writes lines that stand for those that remain, where incrementals are joined, and reports how many entries were left out.
+fn join<R: Counted, W: Sink, E: Write>(
+    alloc: Global,
+    reader: &mut R,
+    writer: &mut W,
+    errors: &mut E,
+) -> Ending
+    ensures ended { HasEnded result
+        (account (R.state reader.old) (W.state writer.old))
+        (account (R.state reader.new) (W.state writer.new)) }
+    ensures passed_on { result ≡ Ending.Done → (W.state writer.new).passed_on ≡ true }
+{
+    match join_script(alloc, reader, writer) {
         Ok(counts) => {
             report_left_out(&counts, errors);
             Ending::Done

@@ -25,12 +25,16 @@ const WRONG_GROUP: Text = Text::Begins(b"error: PG is POOL.SEED, pool 1 to 255 i
 
 const WRONG_FORMAT: Text = Text::Begins(b"error: --format takes 2 or 3\n");
 
+const WRONG_JOIN: Text = Text::Begins(
+    b"error: --join writes lines of version 3, so it goes with --format 3\n",
+);
+
 const WRONG_OFFSET: Text = Text::Begins(
     b"error: --epoch-offset takes a number from 0 to 4294967295\n",
 );
 
 /// The words behind the program's name, its status, what it writes, and what it says on standard error.
-static ROWS: [Row; 43] = [
+static ROWS: [Row; 46] = [
     // The subcommands, words that name none, and the version.
     Row("run", DONE, ANSWERED, NOTHING),
     Row("explain", DONE, Text::Any, NOTHING),
@@ -86,6 +90,14 @@ static ROWS: [Row; 43] = [
     Row("run --format 2", DONE, ANSWERED, NOTHING),
     Row("run --format=03", DONE, ANSWERED, NOTHING),
     Row("compact --format 3", DONE, Text::Is(SCRIPT), Text::Any),
+    Row("compact --join", DONE, Text::Is(SCRIPT), Text::Any),
+    Row(
+        "compact --join --format 3",
+        DONE,
+        Text::Is(SCRIPT),
+        Text::Any,
+    ),
+    Row("compact --join --format 2", USAGE, NOTHING, WRONG_JOIN),
     Row("run --format 1", USAGE, NOTHING, WRONG_FORMAT),
     Row("explain --format 4", USAGE, NOTHING, WRONG_FORMAT),
     Row("compact --format two", USAGE, NOTHING, WRONG_FORMAT),
@@ -145,4 +157,44 @@ fn words_that_could_not_be_read_are_named(rt: HostRuntime) {
         let ending = without_words(*kind, &mut errors);
         assert!(rt; ending.status() == 2 && errors.as_slice() == *told);
     }
+}
+
+/// A device goes down and comes back twice; then the group has begun to serve, and nothing of that matters any more.
+const FLAPS: &[u8] =
+    br#"{"op":"inc","epoch":1,"up":[0,1],"crush":[{"id":-1,"type":1,"alg":"uniform","items":[0,1]}],"pools":[{"id":1,"pg_num":1,"kind":"replicated","size":2,"min_size":1,"leaf":0}]}
+{"op":"inc","epoch":2,"down":[1]}
+{"op":"inc","epoch":3,"up":[1]}
+{"op":"inc","epoch":4,"down":[1]}
+{"op":"inc","epoch":5,"up":[1]}
+{"op":"inc","epoch":6,"up_thru":[[0,5]]}
+{"op":"info","pg":[1,0],"from":[0,0],"stamp":6,"les":6,"history_les":6,"last_update":[0,0],"log_tail":[0,0],"complete":true}
+"#;
+
+/// The device has to be there before it first goes down, and to boot last when it did. The last incremental stands as it was.
+const JOINED: &[u8] =
+    br#"{"op":"inc","epoch":1,"up":[0,1],"crush":[{"id":-1,"type":1,"alg":"uniform","items":[0,1]}],"pools":[{"id":1,"pg_num":1,"kind":"replicated","size":2,"min_size":1,"leaf":0}]}
+{"op":"inc","v":3,"after":1,"epoch":2,"down":[1]}
+{"op":"inc","v":3,"after":2,"epoch":5,"up":[1]}
+{"op":"inc","epoch":6,"up_thru":[[0,5]]}
+{"op":"info","pg":[1,0],"from":[0,0],"stamp":6,"les":6,"history_les":6,"last_update":[0,0],"log_tail":[0,0],"complete":true}
+"#;
+
+static JOINS: [Row; 2] = [
+    Row(
+        "compact --join",
+        DONE,
+        Text::Is(JOINED),
+        Text::Is(b"pgpeer: left out 2 of 7 entries\n"),
+    ),
+    Row(
+        "compact",
+        DONE,
+        Text::Is(FLAPS),
+        Text::Is(b"pgpeer: left out 0 of 7 entries\n"),
+    ),
+];
+
+#[test]
+fn flaps_that_matter_no_more_are_joined(rt: HostRuntime) -> Result<(), Fail> {
+    end_so(&rt, FLAPS, &JOINS)
 }

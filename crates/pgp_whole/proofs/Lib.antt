@@ -11,3 +11,4 @@ pub mod SummaryHearing
 pub mod SummaryUnheard
 pub mod SummaryGroups
 pub mod ReadingLemmas
+mod JoinLemmas

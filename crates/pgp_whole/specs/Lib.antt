@@ -1,6 +1,7 @@
 pub mod Remaining
 pub mod Entries
 pub mod Compaction
+pub mod Joining
 pub mod Pools
 pub mod Summary
 pub mod Ranks

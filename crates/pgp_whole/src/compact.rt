@@ -55,7 +55,7 @@ pub fn compact_script<R: Source, W: Sink>(
 }
 
 /// The lines that remain of a script, each with a line feed, and what became of them.
-fn compacted(
+pub(crate) fn compacted(
     alloc: Global,
     format: Format,
     script: &[u8],

@@ -1,4 +1,4 @@
-use Rattle.std.proofs.Common.{◌≡◌, ℕ, map, take}
+use Rattle.std.proofs.Common.{◌≡◌, map, take}
 use Rattle.pgp_whole.specs.Ranks.{Rank, waits_in}
 use Rattle.pgp_whole.proofs.devices.devices_of.Given as goal
 
