@@ -41,12 +41,12 @@ def append(script, line, target):
         out.write(lines.read() + line)
 
 
-def first_answer(program, script):
+def first_answer(program, script, *options):
     """Gives the answer to the question once the script was answered, and the seconds until it came."""
     count = line_count(script)
     with open(script, "rb") as lines:
         text = lines.read()
-    with subprocess.Popen([program, "run"], stdin=subprocess.PIPE, stdout=subprocess.PIPE) as process:
+    with subprocess.Popen([program, "run", *options], stdin=subprocess.PIPE, stdout=subprocess.PIPE) as process:
         writer = threading.Thread(target=lambda: (process.stdin.write(text), process.stdin.flush()))
         writer.start()
         for _ in range(count):

@@ -24,7 +24,7 @@ import re
 import resource
 import shlex
 import sys
-from typing import Callable, Counter, Iterator, List, NamedTuple, Optional, Sequence, Tuple
+from typing import Any, Callable, Counter, Iterator, List, NamedTuple, Optional, Sequence, Tuple
 
 import compaction
 import explain
@@ -85,14 +85,20 @@ def message(entries: int, kept: int, refused: int) -> bytes:
     return f"pgpeer: left out {entries - kept} of {entries} entries{told}\n".encode()
 
 
-def by_model(text: bytes, last: int = 2) -> Tuple[bytes, bytes]:
-    """What `compact` writes of a script, and what it says on standard error."""
+def taken_of(text: bytes, last: int = 2) -> Tuple[Taken, int]:
+    """What the log of a script takes, and how many lines are refused."""
     taken, refused = Taken(model.Model(last)), 0
     for line in text.split(b"\n"):
         answer = taken.log.answer(line)
         refused += is_refused(answer)
         if answer is not None and is_taken(answer):
             taken.note(line, lines.read(line, last).value, answer)
+    return taken, refused
+
+
+def by_model(text: bytes, last: int = 2) -> Tuple[bytes, bytes]:
+    """What `compact` writes of a script, and what it says on standard error."""
+    taken, refused = taken_of(text, last)
     kept = taken.kept()
     return text_of([taken.lines[at] for at in kept]), message(len(taken.entries), len(kept), refused)
 
@@ -111,9 +117,9 @@ class Cut(NamedTuple):
     groups: List[str]  # that have reports, a few of them
 
 
-def crowd(rng: random.Random, others: List[bytes]) -> fuzz.Script:
+def crowd(rng: random.Random, others: List[bytes], last: Optional[int] = None) -> fuzz.Script:
     """A script of few groups and many reports of them, of all stamps, so that much is left out."""
-    writer = fuzz.Writer(rng, 10**6)
+    writer = fuzz.Writer(rng, 10**6, last)
     writer.story.most_pools, writer.story.asks = rng.choice((1, 1, 2)), rng.choice((0.02, 0.1, 0.3))
     stamps, looks = rng.choice((0, 0.1, 0.5)), rng.choice((0, 0.3))
     for _ in range(rng.choice((200, 600, 1500, 3000))):
@@ -252,7 +258,7 @@ def keep(folder: pathlib.Path, name: str, script: fuzz.Script, why: Wrong) -> No
     folder.mkdir(parents=True, exist_ok=True)
     parts = {"jsonl": script.text(), "given": why.given, "found": why.found, "wanted": why.wanted, "why": str(why).encode()}
     for suffix, content in parts.items():
-        (folder / f"compact-{name}.{suffix}").write_bytes(content)
+        (folder / f"{name}.{suffix}").write_bytes(content)
 
 
 def script_of(seed: str, number: int, others: List[bytes], kinds: Sequence[str]) -> Tuple[str, fuzz.Script, List[Cut]]:
@@ -268,6 +274,8 @@ SUMS = ("runs", "refused", "compactions", "left out", "entries", "scripts", "lin
 class Figures:
     """What was counted."""
 
+    name = "compact"  # of the files of what is wrong
+
     def __init__(self) -> None:
         self.sums: Counter[str] = collections.Counter()
         self.kinds: Counter[str] = collections.Counter()
@@ -281,30 +289,36 @@ class Figures:
         return f"{head}\n{counts}, {it['explanations']} explanations, {it['wrong']} wrong"
 
 
-def tried(options: argparse.Namespace, is_over: Callable[[Counter[str]], bool], figures: Figures) -> Iterator[str]:
-    """Tries script after script; gives what is wrong with each that is."""
+def tried(
+    options: argparse.Namespace, figures: Figures, make: Callable[..., Any] = script_of, attempt: Callable[..., None] = try_script
+) -> Iterator[str]:
+    """Tries script after script; gives what is wrong with each that is. One is made and tried by these."""
     words, others, number = [*shlex.split(options.under), options.program], fuzz.repository_lines(), 0
+    is_over = fuzz.until(options)
     while not is_over(figures.sums):
-        kind, script, cuts = script_of(options.seed, number, others, options.kinds)
+        kind, script, cuts = make(options.seed, number, others, options.kinds)
         figures.kinds[kind] += 1
         figures.sums.update(scripts=1, lines=len(script.lines), refused=sum(map(is_refused, script.answers)))
         try:
-            try_script(words, script, cuts, options.seconds, figures.sums)
+            attempt(words, script, cuts, options.seconds, figures.sums)
         except Wrong as why:
             figures.sums["wrong"] += 1
-            keep(pathlib.Path(options.keep), f"{options.seed}-{number}", script, why)
+            keep(pathlib.Path(options.keep), f"{figures.name}-{options.seed}-{number}", script, why)
             yield f"script {options.seed}/{number} ({kind}): {why}"
         number += 1
 
 
-def main() -> int:
-    options = fuzz.command_line_of_scripts(__doc__, KINDS, 60).parse_args()
+def run(options: argparse.Namespace, figures: Figures, *ways: Callable[..., Any]) -> int:
+    """Tries scripts, and says what was wrong and what was counted; gives the status."""
     resource.setrlimit(resource.RLIMIT_CORE, (0, 0))
-    figures = Figures()
-    for wrong in tried(options, fuzz.until(options), figures):
+    for wrong in tried(options, figures, *ways):
         print(wrong[:2000], flush=True)
     print(figures.text())
     return 1 if figures.sums["wrong"] else 0
+
+
+def main() -> int:
+    return run(fuzz.command_line_of_scripts(__doc__, KINDS, 60).parse_args(), Figures())
 
 
 if __name__ == "__main__":

@@ -71,10 +71,10 @@ def repository_lines() -> List[bytes]:
 
 
 class Writer:
-    """Writes a script line by line, and has the model answer each."""
+    """Writes a script line by line, and has the model answer each. Lines up to the last version are read."""
 
-    def __init__(self, rng: random.Random, entries: int = 400):
-        self.rng, self.log = rng, model.Model(rng.choice((2, 2, 3)))
+    def __init__(self, rng: random.Random, entries: int = 400, last: Optional[int] = None):
+        self.rng, self.log = rng, model.Model(last or rng.choice((2, 2, 3)))
         self.story = grammar.Story(rng, self.log, entries)
         if not self.story.is_first_form and self.log.last == 2:
             self.story.straw2 = self.story.jumps = 0.02  # lines that are refused then
@@ -89,9 +89,9 @@ class Writer:
         return Script(self.lines, self.answers, self.rng.random() < 0.9, self.log, self.log.last)
 
 
-def story(rng: random.Random, others: List[bytes]) -> Script:
+def story(rng: random.Random, others: List[bytes], last: Optional[int] = None) -> Script:
     """A script of all operations, some of whose lines are changed, with noise between."""
-    writer = Writer(rng, rng.choice((30, 100, 400, 1000)))
+    writer = Writer(rng, rng.choice((30, 100, 400, 1000)), last)
     bad, wrong, noisy = rng.choice((0, 0.1, 0.3, 0.6)), rng.choice((0, 0.1, 0.2, 0.4)), rng.choice((0, 0.05, 0.3, 0.6))
     left = rng.choice((50, 300, 1000, 2000))
     while left > 0:
@@ -109,9 +109,9 @@ def story(rng: random.Random, others: List[bytes]) -> Script:
     return writer.script()
 
 
-def noise(rng: random.Random, others: List[bytes]) -> Script:
+def noise(rng: random.Random, others: List[bytes], last: Optional[int] = None) -> Script:
     """Noise, and changed lines of the repository's examples."""
-    writer = Writer(rng)
+    writer = Writer(rng, last=last)
     for _ in range(rng.choice((1000, 4000, 10000))):
         if rng.random() < 0.7:
             writer.put(hostile.noise(rng).replace(b"\n", b""))
@@ -134,9 +134,9 @@ def traces(rng: random.Random, others: List[bytes]) -> Script:
     return writer.script()
 
 
-def long(rng: random.Random, others: List[bytes]) -> Script:
+def long(rng: random.Random, others: List[bytes], last: Optional[int] = None) -> Script:
     """Lines about as long as a line may be, among those of a story."""
-    writer = Writer(rng, 60)
+    writer = Writer(rng, 60, last)
     for _ in range(20):
         for _ in range(10):
             writer.put(grammar.compact(writer.story.line()))
@@ -144,9 +144,9 @@ def long(rng: random.Random, others: List[bytes]) -> Script:
     return writer.script()
 
 
-def wide(rng: random.Random, others: List[bytes]) -> Script:
+def wide(rng: random.Random, others: List[bytes], last: Optional[int] = None) -> Script:
     """A map about as large as it may be, and questions about it."""
-    writer = Writer(rng)
+    writer = Writer(rng, last=last)
     writer.story.devices = range(4096)
     hosts = [{"id": -2 - at, "type": 1, "alg": "uniform", "items": list(range(4 * at, 4 * at + 4))} for at in range(1024)]
     hosts = hosts[: 1024 - 17 + rng.choice((0, 0, 1))]
@@ -161,17 +161,17 @@ def wide(rng: random.Random, others: List[bytes]) -> Script:
     version: Dict[str, Any] = {}
     if not writer.story.is_first_form:
         code, version = {"kind": "grouped", "groups": [[[0, 1], 1], [[2, 3], 1], [[4, 5], 1]]}, {"v": 2}
-    last = {"id": 255, "pg_num": rng.choice((128, 128, 129)), **code, "size": 6, "min_size": 5, "leaf": 2}
+    end = {"id": 255, "pg_num": rng.choice((128, 128, 129)), **code, "size": 6, "min_size": 5, "leaf": 2}
     writer.put(grammar.compact({"op": "inc", **first, "epoch": 1, "up": list(range(4096)), "crush": [root, *racks, *hosts]}))
-    writer.put(grammar.compact({"op": "inc", **version, "epoch": writer.log.maps.epoch + 1, "pools": [*pools, last]}))
+    writer.put(grammar.compact({"op": "inc", **version, "epoch": writer.log.maps.epoch + 1, "pools": [*pools, end]}))
     for _ in range(150):
         writer.put(grammar.compact(writer.story.line()))
     return writer.script()
 
 
-def full(rng: random.Random, others: List[bytes]) -> Script:
+def full(rng: random.Random, others: List[bytes], last: Optional[int] = None) -> Script:
     """A log that gets as long as it may, and what comes after."""
-    writer = Writer(rng, 10**6)
+    writer = Writer(rng, 10**6, last)
     writer.story.asks = 0.0
     for _ in range(60):
         writer.put(grammar.compact(writer.story.line()))
