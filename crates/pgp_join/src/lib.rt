@@ -2,7 +2,9 @@
 //!
 //! This crate defines when another log may stand for one: the reports are the same, the last maps say the same of all that entries
 //! and views read, and of each group the same intervals can matter. Its laws say that such logs have alike views, now and after
-//! whatever entries come. So incrementals may be left out and others pass over their epochs. It makes no such log itself.
+//! whatever entries come. So incrementals may be left out and others pass over their epochs.
+//!
+//! [`pieces_of`] makes a shorter log, of which nothing is promised. [`are_alike`] decides whether two logs are alike.
 #![tactic(auto)]
 
 mod alike;
