@@ -1,4 +1,4 @@
--- The least of an object's keys that pass a test, as a walk over the members in the line's order finds it.
+-- The least of an object's keys that pass a test, as a walk over the members in the line's order finds it; and keys that an object lacks.
 use Rattle.std.proofs.Common.{◌≡◌, ℕ, List, [], ◌∷◌, map, Bool, true, false, cond, Option, Some, None, Ordering, Less, Equal, Greater, filter, fold, nat_cmp, is_eq, not, Bor, refl, sym, ap, ◌∙◌, arith}
 use Rattle.std.proofs.lemmas.Cmp.{nat_list_cmp_total}
 use Rattle.std.proofs.lemmas.Map.Text.{is_eq-slice_cmp}
@@ -7,7 +7,8 @@ use Rattle.std.specs.Cmp.Lexicographic.{slice_cmp}
 use Rattle.std.specs.Ordering.{match_ordering, ordering_reverse}
 use Rattle.json.specs.Json as json
 use Rattle.json.specs.Token.{Token}
-use Rattle.serde_json.specs.Data.{Data, Members, no_members, member, put}
+use Rattle.serde_json.specs.Data.{Data, object, Members, no_members, member, put}
+use Rattle.serde_json.specs.Find.{get, get_member}
 use Rattle.pgp_lines.specs.Shapes.{lesser, least_with, least, keys_of, is_key, unknown_key_in}
 use Rattle.pgp_lines.specs.Value.{json_data, members_data, json_of, view}
 
@@ -108,3 +109,14 @@ least_unknown keys best ms = least_past (λ key. not (is_key keys key)) best ms
 
 pub unknown-object : (keys : List (List ℕ)) (ts : List Token) (ms : json.Members) → json_of ts ≡ json.object ms → unknown_key_in keys (view ts) ≡ least_unknown keys None ms
 unknown-object keys ts ms is = rw is (least-members (λ key. not (is_key keys key)) ms no_members)
+
+-- ---- a key that is none of these
+
+absent-member : (keys : List (List ℕ)) (key : List ℕ) (ms : Members) → is_key keys key ≡ false → least_in (λ k. not (is_key keys k)) ms ≡ None → get_member key ms ≡ None
+absent-member keys key no_members other none = refl
+absent-member keys key (member l e ms) other none = grind (arith, same_text key l, absent-member keys key ms other)
+
+-- an object with no keys but these lacks it
+pub absent : (keys : List (List ℕ)) (key : List ℕ) (d : Data) → is_key keys key ≡ false → unknown_key_in keys d ≡ None → get key d ≡ None
+absent keys key (object ms) other none = absent-member keys key ms other none
+absent keys key _ other none = refl

@@ -7,3 +7,4 @@ pub mod Keys
 pub mod BucketLemmas
 pub mod Sized
 pub mod FormatLemmas
+pub mod AfterLemmas

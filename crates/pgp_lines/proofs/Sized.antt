@@ -45,11 +45,11 @@ module _ {A B : Type 0} (Q : B → Type 0) where
   mapped P None f first next = tt
   mapped P (Some x) f first next = next x first
 
-  from_ok : (P : A → Type 0) (r : Result A LineFault) (f : A → Result B LineFault) → IfOk r P → ((x : A) → P x → IfOk (f x) Q) → IfOk (r >>= f) Q
+  pub from_ok : (P : A → Type 0) (r : Result A LineFault) (f : A → Result B LineFault) → IfOk r P → ((x : A) → P x → IfOk (f x) Q) → IfOk (r >>= f) Q
   from_ok P (Ok x) f first next = next x first
   from_ok P (Err fault) f first next = tt
 
-  past : (r : Result A LineFault) (f : A → Result B LineFault) → ((x : A) → IfOk (f x) Q) → IfOk (r >>= f) Q
+  pub past : (r : Result A LineFault) (f : A → Result B LineFault) → ((x : A) → IfOk (f x) Q) → IfOk (r >>= f) Q
   past (Ok x) f next = next x
   past (Err fault) f next = tt
 
