@@ -7,17 +7,16 @@ use Rattle.pgp_reasons.specs.Smallest.{holds}
 use Rattle.pgp_reasons.specs.declared.blocking.Blocking.{Blocking}
 use Rattle.pgp_reasons.specs.declared.fates.IntervalNow.{IntervalNow}
 use Rattle.pgp_group_words.specs.Text.{Text, joined, line, listed}
-use Rattle.pgp_group_words.specs.Names.{epoch_name, device_name, leader_name, member_name, places_name, are, plural}
+use Rattle.pgp_group_words.specs.Names.{epoch_name, device_names, leader_name, member_name, places_name, are, plural}
 use Rattle.pgp_group_words.specs.Spans.{interval_epochs}
-use Rattle.pgp_group_words.specs.declared.names.Naming.{Naming}
-use Rattle.pgp_group_words.specs.declared.offset.EpochOffset.{EpochOffset}
+use Rattle.pgp_group_words.specs.declared.page.Naming.{Naming}
 
 -- why an interval may have gone read-write: a report that the group was clean in this epoch, or what the map recorded of its
 -- primary
-unfoldable pub read_write_line : Option ℕ → EpochOffset → Option ℕ → Text
-read_write_line (Some clean) offset primary =
-    line (codes "  it may have gone read-write: a report says that the group was clean in epoch " ∷ epoch_name offset clean ∷ [])
-read_write_line None offset primary =
+unfoldable pub read_write_line : Naming → Option ℕ → Option ℕ → Text
+read_write_line naming (Some clean) primary =
+    line (codes "  it may have gone read-write: a report says that the group was clean in epoch " ∷ epoch_name naming.offset clean ∷ [])
+read_write_line naming None primary =
     line (codes "  it may have gone read-write: the map recorded that its primary, " ∷ leader_name primary ∷ codes ", was up in it" ∷ [])
 
 -- what it needs this many of
@@ -27,8 +26,8 @@ member_noun by_place count = if by_place then plural count (codes "shard") (code
 -- when an interval was, who served, and what it needs
 unfoldable pub waits_line : Naming → Blocking → Text
 waits_line naming blocking = line (
-    codes "\nIt waits for the interval of "
-    ∷ interval_epochs blocking.interval naming.offset
+    codes "It waits for the interval of "
+    ∷ interval_epochs naming.offset blocking.interval
     ∷ codes " on "
     ∷ places_name blocking.interval.acting
     ∷ codes ", which needs "
@@ -51,7 +50,7 @@ down_line naming members =
 unfoldable pub fate_line : Text → List ℕ → Text
 fate_line fate osds =
     if length osds == 0 then []
-    else line (codes "  " ∷ listed (map device_name osds) ∷ codes " " ∷ plural (length osds) (codes "was ") (codes "were ") ∷ fate ∷ [])
+    else line (codes "  " ∷ device_names osds ∷ codes " " ∷ plural (length osds) (codes "was") (codes "were") ∷ codes " " ∷ fate ∷ [])
 
 unfoldable pub fate_lines : IntervalNow → Text
 fate_lines interval = joined (
@@ -66,5 +65,5 @@ interval_lines naming blocking = joined (
     waits_line naming blocking
     ∷ down_line naming (members_on naming.by_place blocking.interval.acting blocking.interval.down)
     ∷ fate_lines blocking.interval
-    ∷ read_write_line blocking.clean naming.offset (first_osd blocking.interval.acting)
+    ∷ read_write_line naming blocking.clean (first_osd blocking.interval.acting)
     ∷ [])

@@ -8,7 +8,7 @@ use Rattle.pgp_group_words.specs.Names.{member_name, plural}
 use Rattle.pgp_group_words.specs.declared.lags.Lag.{Lag}
 use Rattle.pgp_group_words.specs.declared.lags.Lag.TheVariants.{Objects, Backfill, Diverged}
 use Rattle.pgp_group_words.specs.declared.lags.Laggard.{Laggard}
-use Rattle.pgp_group_words.specs.declared.names.Naming.{Naming}
+use Rattle.pgp_group_words.specs.declared.page.Naming.{Naming}
 
 -- what a member of this state lacks, where it lacks something
 abbrev pub lag_of : PeerState → Option Lag

@@ -4,8 +4,8 @@ use Rattle.std.specs.Fmt.{digits}
 use Rattle.pgp_ids.specs.declared.member.Member.{Member}
 use Rattle.pgp_ids.specs.declared.pg_id.PgId.{PgId}
 use Rattle.pgp_ids.specs.declared.version.Version.{Version}
-use Rattle.pgp_group_words.specs.Text.{Text, joined, listed_with}
-use Rattle.pgp_group_words.specs.declared.names.Naming.{Naming}
+use Rattle.pgp_group_words.specs.Text.{Text, joined, listed, listed_with}
+use Rattle.pgp_group_words.specs.declared.page.Naming.{Naming}
 use Rattle.pgp_group_words.specs.declared.offset.EpochOffset.{EpochOffset}
 
 -- an epoch as the cluster counts it, with an offset; epoch 0, before the first map, stays 0
@@ -21,6 +21,10 @@ group_name group = joined (decimal group.pool ∷ codes "." ∷ digits 16 false 
 
 abbrev pub device_name : ℕ → Text
 device_name osd = codes "osd." ++ decimal osd
+
+-- devices in a sentence
+abbrev pub device_names : List ℕ → Text
+device_names osds = listed (map device_name osds)
 
 -- who leads a group
 abbrev pub leader_name : Option ℕ → Text

@@ -9,13 +9,14 @@ use Rattle.pgp_ids.specs.declared.verdict.Verdict.{Verdict}
 use Rattle.pgp_ids.specs.declared.verdict.Verdict.TheVariants.{NoPrimary, Down, Waiting, Incomplete, Short, NeedLog, NeedUpThru, Serve}
 use Rattle.pgp_reasons.specs.declared.fates.IntervalNow.{IntervalNow}
 use Rattle.pgp_reasons.specs.declared.gap.Gap.{Gap}
+use Rattle.pgp_reasons.specs.declared.reasons.Reasons.{Reasons}
 use Rattle.pgp_group_words.specs.Text.{Text, joined, listed}
 use Rattle.pgp_group_words.specs.Lags.{laggard_of, laggard_name}
-use Rattle.pgp_group_words.specs.Names.{epoch_name, device_name, leader_name, member_name, are, plural}
+use Rattle.pgp_group_words.specs.Names.{epoch_name, device_names, leader_name, member_name, are, plural}
 use Rattle.pgp_group_words.specs.Spans.{interval_epochs, epochs_name, writes_name}
 use Rattle.pgp_group_words.specs.declared.explanation.Explanation.{Explanation}
 use Rattle.pgp_group_words.specs.declared.lags.Laggard.{Laggard}
-use Rattle.pgp_group_words.specs.declared.names.Naming.{Naming}
+use Rattle.pgp_group_words.specs.declared.page.Naming.{Naming}
 use Rattle.pgp_group_words.specs.declared.offset.EpochOffset.{EpochOffset}
 
 -- how the members and epochs of a group are told
@@ -27,20 +28,20 @@ unfoldable pub unheard_of : Explanation → List Member
 unheard_of explanation = filter (λ member. not (has_member member explanation.reasons.heard)) explanation.view.probe
 
 -- writes may be on devices that are down alone
-unfoldable pub on_down : Explanation → EpochOffset → Text
-on_down explanation offset = joined (
+unfoldable pub on_down : Naming → Explanation → Text
+on_down naming explanation = joined (
     codes "It waits for "
-    ∷ listed (map device_name explanation.view.blocked_by)
+    ∷ device_names explanation.view.blocked_by
     ∷ codes ", which "
     ∷ are (length explanation.view.blocked_by)
     ∷ codes " down: writes may have been taken in "
-    ∷ epochs_name offset explanation.reasons.blocking
+    ∷ epochs_name naming.offset explanation.reasons.blocking
     ∷ codes ", and too few of the devices that took them are up."
     ∷ [])
 
 -- members that are up haven't told of their copies
-unfoldable pub on_waiting : Explanation → Naming → Text
-on_waiting explanation naming = joined (codes "It has yet to hear from " ∷ listed (map (member_name naming) (unheard_of explanation)) ∷ codes "." ∷ [])
+unfoldable pub on_waiting : Naming → Explanation → Text
+on_waiting naming explanation = joined (codes "It has yet to hear from " ∷ listed (map (member_name naming) (unheard_of explanation)) ∷ codes "." ∷ [])
 
 -- of two infos the one that knows of the later epoch in which the group served; the second, where both know of the same
 abbrev pub later_of : Info → Info → Info
@@ -56,8 +57,8 @@ abbrev pub informed_beside_complete : List Info → Option Info
 informed_beside_complete infos = if list_any (λ info. info.complete) infos then informed infos else None
 
 -- complete copies are older than what this info knows of
-unfoldable pub not_recent : Info → Naming → Text
-not_recent info naming = joined (
+unfoldable pub not_recent : Naming → Info → Text
+not_recent naming info = joined (
     codes "No copy that was heard of is complete and recent enough: "
     ∷ member_name naming info.member
     ∷ codes " knows that the group served in epoch "
@@ -65,9 +66,9 @@ not_recent info naming = joined (
     ∷ codes ", and no complete copy has served since."
     ∷ [])
 
-abbrev pub none_recent : Option Info → Naming → Text
-none_recent None naming = codes "No complete copy was heard of."
-none_recent (Some info) naming = not_recent info naming
+abbrev pub none_recent : Naming → Option Info → Text
+none_recent naming None = codes "No complete copy was heard of."
+none_recent naming (Some info) = not_recent naming info
 
 -- the acting set has too few members
 unfoldable pub few_members : (members min_size : ℕ) → Text
@@ -101,88 +102,71 @@ few explanation =
     if nat_le explanation.min_size (osd_count explanation.view.acting) then few_shards explanation.reasons.short.lacks
     else few_members (osd_count explanation.view.acting) explanation.min_size
 
+-- what is said of these devices, if of any: what stands before their names, and behind them
+abbrev pub osds_part : Text → List ℕ → Text → Text
+osds_part before osds after = if length osds == 0 then [] else joined (before ∷ device_names osds ∷ after ∷ [])
+
 -- who of those that served the group last is down
-unfoldable pub fallen_part : List ℕ → Text
-fallen_part osds =
-    if length osds == 0 then []
-    else joined (
-    codes " Of those that served it last, "
-    ∷ listed (map device_name osds)
-    ∷ codes " "
-    ∷ are (length osds)
-    ∷ codes " down."
-    ∷ [])
+abbrev pub fallen_part : List ℕ → Text
+fallen_part osds = osds_part (codes " Of those that served it last, ") osds (plural (length osds) (codes " is down.") (codes " are down."))
 
 -- who of those that were complete when the group was last clean is down
-unfoldable pub held_part : IntervalNow → EpochOffset → Text
-held_part interval offset = joined (
+unfoldable pub held_part : Naming → IntervalNow → Text
+held_part naming interval = joined (
     codes " Of those that were complete in "
-    ∷ interval_epochs interval offset
+    ∷ interval_epochs naming.offset interval
     ∷ codes ", when it was last clean, "
-    ∷ listed (map device_name interval.down)
+    ∷ device_names interval.down
     ∷ codes " "
     ∷ are (length interval.down)
     ∷ codes " down."
     ∷ [])
 
 -- the same, or else who of those that served the group last is down
-abbrev pub clean_part : Option IntervalNow → List ℕ → EpochOffset → Text
-clean_part None fallen offset = fallen_part fallen
-clean_part (Some interval) fallen offset = if length interval.down == 0 then fallen_part fallen else held_part interval offset
+abbrev pub clean_part : Naming → Option IntervalNow → List ℕ → Text
+clean_part naming None fallen = fallen_part fallen
+clean_part naming (Some interval) fallen = if length interval.down == 0 then fallen_part fallen else held_part naming interval
 
 -- who might be started
-abbrev pub starters_part : Explanation → EpochOffset → Text
-starters_part explanation offset = clean_part explanation.reasons.clean explanation.reasons.short.fallen offset
+abbrev pub starters_part : Naming → Reasons → Text
+starters_part naming reasons = clean_part naming reasons.clean reasons.short.fallen
 
 -- nobody leads it
-unfoldable pub on_no_primary : Explanation → EpochOffset → Text
-on_no_primary explanation offset = codes "No device of its acting set is up, so nobody leads it." ++ starters_part explanation offset
+unfoldable pub on_no_primary : Naming → Reasons → Text
+on_no_primary naming reasons = codes "No device of its acting set is up, so nobody leads it." ++ starters_part naming reasons
 
 -- no copy may be followed
-unfoldable pub on_incomplete : Explanation → EpochOffset → Text
-on_incomplete explanation offset =
-    none_recent (informed_beside_complete explanation.reasons.heard) (naming_of explanation offset) ++ starters_part explanation offset
+unfoldable pub on_incomplete : Naming → Reasons → Text
+on_incomplete naming reasons = none_recent naming (informed_beside_complete reasons.heard) ++ starters_part naming reasons
 
 -- the acting set has too few members, or they hold too few shards; and who might be started
 unfoldable pub on_short : Explanation → Text
 on_short explanation = few explanation ++ fallen_part explanation.reasons.short.fallen
 
--- the log of this member lacks these numbers of writes
-unfoldable pub lacking_log : Text → List Gap → Text
-lacking_log best gaps = joined (
-    codes "The log of "
-    ∷ best
-    ∷ codes ", which has the best copy, lacks the "
-    ∷ writes_name gaps
-    ∷ codes "."
-    ∷ [])
-
--- it lacks none, and is wrong all the same
-unfoldable pub unordered_log : Text → Text
-unordered_log best = joined (codes "The log of " ∷ best ∷ codes ", which has the best copy, is not in order." ∷ [])
-
-abbrev pub log_of_best : Option Member → List Gap → Naming → Text
-log_of_best None gaps naming = codes "The log of its best copy is not whole."
-log_of_best (Some best) gaps naming =
-    if length gaps == 0 then unordered_log (member_name naming best) else lacking_log (member_name naming best) gaps
+-- the log of this member lacks these numbers of writes, or none, and is wrong all the same
+unfoldable pub log_of : Naming → Member → List Gap → Text
+log_of naming best gaps =
+    if length gaps == 0 then joined (codes "The log of " ∷ member_name naming best ∷ codes ", which has the best copy, is not in order." ∷ [])
+    else joined (codes "The log of " ∷ member_name naming best ∷ codes ", which has the best copy, lacks the " ∷ writes_name gaps ∷ codes "." ∷ [])
 
 -- entries of the log by which objects are brought up to date haven't been reported
-unfoldable pub on_log : Option Member → List Gap → Naming → Text
-on_log best gaps naming = log_of_best best gaps naming
+abbrev pub on_log : Naming → Option Member → List Gap → Text
+on_log naming None gaps = codes "The log of its best copy is not whole."
+on_log naming (Some best) gaps = log_of naming best gaps
 
 -- the map doesn't say yet that writes may be taken in this interval
-unfoldable pub on_up_thru : Option ℕ → Text → Text
-on_up_thru primary first = joined (
+unfoldable pub on_up_thru : Naming → Option ℕ → ℕ → Text
+on_up_thru naming primary first = joined (
     codes "The map has yet to record that "
     ∷ leader_name primary
     ∷ codes ", which leads it, is up in this interval: up_thru "
-    ∷ first
+    ∷ epoch_name naming.offset first
     ∷ codes " or later."
     ∷ [])
 
 -- who lacks something of the best copy
-unfoldable pub behind_part : List Laggard → Naming → Text
-behind_part laggards naming =
+unfoldable pub behind_part : Naming → List Laggard → Text
+behind_part naming laggards =
     if length laggards == 0 then [] else joined (codes " " ∷ listed (map (laggard_name naming) laggards) ∷ codes "." ∷ [])
 
 -- too few complete copies were heard
@@ -196,24 +180,24 @@ unread_part lacks =
     ∷ [])
 
 -- it serves, and members that lag behind catch up
-unfoldable pub on_serving : Explanation → Naming → Text
-on_serving explanation naming = joined (
+unfoldable pub on_serving : Naming → Explanation → Text
+on_serving naming explanation = joined (
     joined (codes "It serves, led by " ∷ leader_name explanation.view.acting_primary ∷ codes "." ∷ [])
     ∷ unread_part explanation.reasons.copies.lacks
-    ∷ behind_part (filter_map laggard_of explanation.view.missing) naming
+    ∷ behind_part naming (filter_map laggard_of explanation.view.missing)
     ∷ [])
 
 -- the sentence on this verdict
-abbrev pub sentence_on : Verdict → Explanation → EpochOffset → Text
-sentence_on NoPrimary explanation offset = on_no_primary explanation offset
-sentence_on Down explanation offset = on_down explanation offset
-sentence_on Waiting explanation offset = on_waiting explanation (naming_of explanation offset)
-sentence_on Incomplete explanation offset = on_incomplete explanation offset
-sentence_on Short explanation offset = on_short explanation
-sentence_on NeedLog explanation offset = on_log explanation.view.best explanation.reasons.gaps (naming_of explanation offset)
-sentence_on NeedUpThru explanation offset = on_up_thru explanation.view.acting_primary (epoch_name offset explanation.view.first)
-sentence_on Serve explanation offset = on_serving explanation (naming_of explanation offset)
+abbrev pub sentence_on : Verdict → Naming → Explanation → Text
+sentence_on NoPrimary naming explanation = on_no_primary naming explanation.reasons
+sentence_on Down naming explanation = on_down naming explanation
+sentence_on Waiting naming explanation = on_waiting naming explanation
+sentence_on Incomplete naming explanation = on_incomplete naming explanation.reasons
+sentence_on Short naming explanation = on_short explanation
+sentence_on NeedLog naming explanation = on_log naming explanation.view.best explanation.reasons.gaps
+sentence_on NeedUpThru naming explanation = on_up_thru naming explanation.view.acting_primary explanation.view.first
+sentence_on Serve naming explanation = on_serving naming explanation
 
 -- the sentence on the verdict of a group
-unfoldable pub sentence_of : Explanation → EpochOffset → Text
-sentence_of explanation offset = sentence_on explanation.view.verdict explanation offset
+unfoldable pub sentence_of : Naming → Explanation → Text
+sentence_of naming explanation = sentence_on explanation.view.verdict naming explanation

@@ -1,9 +1,9 @@
 -- Runs of epochs and of writes in words.
-use Rattle.std.specs.Prelude.{ℕ, ◌+◌, ◌==◌, List, [], ◌∷◌, ◌++◌, Bool, false, nat_lt, length, take, map, fold, flat_map, codes, decimal, if◌then◌else◌}
+use Rattle.std.specs.Prelude.{ℕ, ◌+◌, ◌==◌, List, [], ◌∷◌, ◌++◌, Bool, false, nat_lt, length, take, map, fold, codes, decimal, if◌then◌else◌}
 use Rattle.pgp_reasons.specs.declared.blocking.Blocking.{Blocking}
 use Rattle.pgp_reasons.specs.declared.fates.IntervalNow.{IntervalNow}
 use Rattle.pgp_reasons.specs.declared.gap.Gap.{Gap}
-use Rattle.pgp_group_words.specs.Text.{Text, joined, listed}
+use Rattle.pgp_group_words.specs.Text.{Text, joined, listed, listed_with}
 use Rattle.pgp_group_words.specs.Names.{cluster_epoch}
 use Rattle.pgp_group_words.specs.declared.offset.EpochOffset.{EpochOffset}
 use Rattle.pgp_group_words.specs.declared.spans.Span.{Span}
@@ -37,9 +37,6 @@ runs_of_epochs offset intervals = fold then_run [] (map (epochs_blocked offset) 
 abbrev pub run_of_writes : Gap → Span
 run_of_writes gap = run_between gap.first gap.last
 
-unfoldable pub runs_of_writes : List Gap → List Span
-runs_of_writes gaps = map run_of_writes gaps
-
 -- the runs are one number alone
 abbrev pub is_single : List Span → Bool
 is_single [] = false
@@ -54,7 +51,7 @@ most_named = 5
 abbrev pub numbers_name : List Span → Text
 numbers_name runs =
     if nat_lt most_named (length runs)
-    then flat_map (λ run. span_name run ++ codes ", ") (take most_named runs) ++ codes "and later ones"
+    then listed_with (codes ", ") (map span_name (take most_named runs)) ++ codes ", and later ones"
     else listed (map span_name runs)
 
 -- runs of this noun in a sentence: epoch 7, epochs 1 to 3 and 5
@@ -66,9 +63,9 @@ abbrev pub epochs_name : EpochOffset → List Blocking → Text
 epochs_name offset intervals = runs_name (codes "epoch") (runs_of_epochs offset intervals)
 
 -- the epochs of an interval in a sentence
-abbrev pub interval_epochs : IntervalNow → EpochOffset → Text
-interval_epochs interval offset = runs_name (codes "epoch") (epochs_of offset interval ∷ [])
+abbrev pub interval_epochs : EpochOffset → IntervalNow → Text
+interval_epochs offset interval = runs_name (codes "epoch") (epochs_of offset interval ∷ [])
 
 -- the writes that a log lacks in a sentence
 abbrev pub writes_name : List Gap → Text
-writes_name gaps = runs_name (codes "write") (runs_of_writes gaps)
+writes_name gaps = runs_name (codes "write") (map run_of_writes gaps)

@@ -1,5 +1,6 @@
 -- Text as it is put together.
-use Rattle.std.specs.Prelude.{ℕ, ◌==◌, List, [], ◌∷◌, ◌++◌, length, flat_map, codes, if◌then◌else◌}
+use Rattle.std.specs.Prelude.{◌≡◌, ℕ, ◌==◌, List, [], ◌∷◌, ◌++◌, length, flat_map, codes, if◌then◌else◌}
+use Rattle.pgp_group_words.specs.declared.page.Naming.{Naming}
 
 -- bytes, as all text here
 abbrev pub Text : Type 0
@@ -29,7 +30,15 @@ listed_with last (item ∷ items) = item ++ (joint last (length items) ++ listed
 abbrev pub listed : List Text → Text
 listed items = listed_with (codes " and ") items
 
--- what is said of each of these, where the first begins in one way and those after it in another
-abbrev pub each_after_first : {A : Type 0} → (Text → A → Text) → (first later : Text) → List A → Text
-each_after_first line_of first later [] = []
-each_after_first line_of first later (x ∷ xs) = line_of first x ++ flat_map (line_of later) xs
+-- what is said of each of these, with this before it
+abbrev pub each : {A : Type 0} → Text → (A → Text) → List A → Text
+each before words xs = flat_map (λ x. before ++ words x) xs
+
+-- what a page has: how members and epochs are named on it, and its text
+pub record Sheet : Type 0 where
+  pub naming : Naming
+  pub text : Text
+
+-- the text grew by just this
+abbrev pub Puts : (old new : Sheet) → Text → Type 0
+Puts old new more = new ≡ record { naming = old.naming; text = old.text ++ more }

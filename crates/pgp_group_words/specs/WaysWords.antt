@@ -1,5 +1,5 @@
 -- What would bring a group back, in words.
-use Rattle.std.specs.Prelude.{ℕ, ◌==◌, List, [], ◌∷◌, ◌++◌, Bool, true, false, ◌||◌, ◌&&◌, nat_lt, length, map, flat_map, Option, Some, None, codes, decimal, string_bytes, if◌then◌else◌}
+use Rattle.std.specs.Prelude.{ℕ, ◌==◌, List, [], ◌∷◌, ◌++◌, Bool, true, false, ◌||◌, ◌&&◌, nat_lt, length, Option, Some, None, codes, decimal, string_bytes, if◌then◌else◌}
 use Rattle.pgp_ids.specs.Names.{verdict_name}
 use Rattle.pgp_ids.specs.Osds.{osd_count}
 use Rattle.pgp_ids.specs.declared.verdict.Verdict.{Verdict}
@@ -7,18 +7,18 @@ use Rattle.pgp_ids.specs.declared.verdict.Verdict.TheVariants.{NoPrimary, Down, 
 use Rattle.pgp_reasons.specs.declared.fates.IntervalNow.{IntervalNow}
 use Rattle.pgp_reasons.specs.declared.fates.Writes.{Writes}
 use Rattle.pgp_reasons.specs.declared.fates.Writes.TheVariants.{Readable, Away, Gone}
-use Rattle.pgp_reasons.specs.declared.price.Price.{Price}
 use Rattle.pgp_reasons.specs.declared.ways.Ways.{Ways}
 use Rattle.pgp_reasons.specs.declared.ways.Ways.TheVariants.{Any, Listed}
-use Rattle.pgp_group_words.specs.Text.{Text, joined, line, listed, each_after_first}
-use Rattle.pgp_group_words.specs.Names.{device_name, are}
-use Rattle.pgp_group_words.specs.Sentence.{sentence_of, few}
+use Rattle.pgp_group_words.specs.Text.{Text, joined, line, each}
+use Rattle.pgp_group_words.specs.Names.{device_names, are}
+use Rattle.pgp_group_words.specs.Sentence.{sentence_of, few, naming_of, osds_part}
 use Rattle.pgp_group_words.specs.Spans.{interval_epochs}
 use Rattle.pgp_group_words.specs.declared.advice.Advice.{Advice}
 use Rattle.pgp_group_words.specs.declared.explanation.Explanation.{Explanation}
 use Rattle.pgp_group_words.specs.declared.offset.EpochOffset.{EpochOffset}
 use Rattle.pgp_group_words.specs.declared.outcome.Outcome.{Outcome}
 use Rattle.pgp_group_words.specs.declared.outcome.Then.{Then}
+use Rattle.pgp_group_words.specs.declared.page.Naming.{Naming}
 
 -- ---- what a group is after a way
 
@@ -42,25 +42,21 @@ later_part explanation = if has_to_wait explanation.view.verdict && has_too_few 
 
 -- what is said of it
 unfoldable pub says_then : Explanation → EpochOffset → Text
-says_then explanation offset = sentence_of explanation offset ++ later_part explanation
+says_then explanation offset = sentence_of (naming_of explanation offset) explanation ++ later_part explanation
 
 -- ---- a way
 
--- which devices boot
-unfoldable pub start_part : List ℕ → Text
-start_part osds = if length osds == 0 then [] else joined (codes "start " ∷ listed (map device_name osds) ∷ [])
-
--- which are declared lost
-unfoldable pub lost_part : List ℕ → Text
-lost_part osds = if length osds == 0 then [] else joined (codes "declare " ∷ listed (map device_name osds) ∷ codes " lost" ∷ [])
-
+-- what stands between the devices that boot and those that are declared lost
 abbrev pub and_part : (starts losses : List ℕ) → Text
 and_part starts losses = if length starts == 0 then [] else (if length losses == 0 then [] else codes " and ")
 
 -- what is done
-unfoldable pub deed_line : Text → Outcome → Text
-deed_line before outcome = line (
-    codes "  " ∷ before ∷ start_part outcome.starts ∷ and_part outcome.starts outcome.losses ∷ lost_part outcome.losses ∷ [])
+unfoldable pub deed_line : Outcome → Text
+deed_line outcome = line (
+    osds_part (codes "start ") outcome.starts []
+    ∷ and_part outcome.starts outcome.losses
+    ∷ osds_part (codes "declare ") outcome.losses (codes " lost")
+    ∷ [])
 
 -- what the group is then
 abbrev pub then_line : Option Then → Text
@@ -68,69 +64,73 @@ then_line None = codes "    what it is then isn't known: the log takes no more\n
 then_line (Some after) = line (codes "    then " ∷ verdict_name after.verdict ∷ codes ": " ∷ string_bytes after.says ∷ [])
 
 -- that it goes on without the writes of an interval
-unfoldable pub without_line : EpochOffset → IntervalNow → Text → Text
-without_line offset interval why = line (
-    codes "    it goes on without what was written in " ∷ interval_epochs interval offset ∷ codes ", at least: " ∷ why ∷ [])
+unfoldable pub without_part : Naming → IntervalNow → Text
+without_part naming interval =
+    joined (codes "    it goes on without what was written in " ∷ interval_epochs naming.offset interval ∷ codes ", at least: " ∷ [])
 
 -- which devices that are down may have it
 unfoldable pub away_part : List ℕ → Text
-away_part osds = joined (listed (map device_name osds) ∷ codes ", which " ∷ are (length osds) ∷ codes " down, may have it" ∷ [])
+away_part osds = line (device_names osds ∷ codes ", which " ∷ are (length osds) ∷ codes " down, may have it" ∷ [])
 
-abbrev pub price_line_by : Writes → EpochOffset → IntervalNow → Text
-price_line_by Readable offset interval = []
-price_line_by Away offset interval = without_line offset interval (away_part interval.down)
-price_line_by Gone offset interval = without_line offset interval (codes "too few of the devices that took it are left")
+abbrev pub price_line_by : Writes → Naming → IntervalNow → Text
+price_line_by Readable naming interval = []
+price_line_by Away naming interval = without_part naming interval ++ away_part interval.down
+price_line_by Gone naming interval = without_part naming interval ++ codes "too few of the devices that took it are left\n"
 
 -- what it costs by an interval
-abbrev pub price_line : EpochOffset → IntervalNow → Text
-price_line offset interval = price_line_by interval.writes offset interval
+abbrev pub price_line : Naming → IntervalNow → Text
+price_line naming interval = price_line_by interval.writes naming interval
 
 -- that all is unreadable
 abbrev pub unreadable_line : Bool → Text
-unreadable_line true = codes "    no object can be read then: too few devices are left of all that ever served\n"
-unreadable_line false = []
-
--- what it costs
-unfoldable pub price_lines : EpochOffset → Price → Text
-price_lines offset price = flat_map (price_line offset) price.intervals ++ unreadable_line price.unreadable
+unreadable_line is = if is then codes "    no object can be read then: too few devices are left of all that ever served\n" else []
 
 -- a way: what is done, what the group is then, and what that costs
-unfoldable pub outcome_lines : EpochOffset → Text → Outcome → Text
-outcome_lines offset before outcome =
-    joined (deed_line before outcome ∷ then_line outcome.after ∷ price_lines offset outcome.price ∷ [])
+unfoldable pub outcome_lines : Naming → Outcome → Text
+outcome_lines naming outcome = joined (
+    deed_line outcome
+    ∷ then_line outcome.after
+    ∷ each [] (price_line naming) outcome.price.intervals
+    ∷ unreadable_line outcome.price.unreadable
+    ∷ [])
 
 -- ---- all ways
+
+-- each way with what follows, the later ones with `or` before them
+unfoldable pub outcomes_lines : Naming → List Outcome → Text
+outcomes_lines naming [] = []
+outcomes_lines naming (first ∷ others) =
+    joined (codes "  " ∷ outcome_lines naming first ∷ each (codes "  or ") (outcome_lines naming) others ∷ [])
 
 abbrev pub ways_heading : Verdict → Text
 ways_heading Down = codes "\nWhat ends Down:\n"
 ways_heading verdict = codes "\nIt would be Down, too. What ends that:\n"
 
--- that any so many of some devices are enough
+-- that any so many of some devices are enough; where one is enough, each of them is listed
 unfoldable pub any_line : ℕ → List ℕ → Text
-any_line least osds = line (
-    codes "  any " ∷ decimal least ∷ codes " of " ∷ listed (map device_name osds) ∷ codes " will do, such as" ∷ [])
-
--- where one is enough, each of them is listed
-abbrev pub any_lines : ℕ → List ℕ → Text
-any_lines least osds = if least == 1 then [] else any_line least osds
+any_line least osds =
+    if least == 1 then [] else line (codes "  any " ∷ decimal least ∷ codes " of " ∷ device_names osds ∷ codes " will do, such as" ∷ [])
 
 abbrev pub shape_line : Ways → Text
-shape_line (Any any) = any_lines any.least any.osds
+shape_line (Any any) = any_line any.least any.osds
 shape_line (Listed sets) = []
 
 -- there may be ways that aren't listed
+abbrev pub may_be_more : Ways → Bool
+may_be_more (Any any) = false
+may_be_more (Listed listed) = listed.more
+
 abbrev pub more_line : Ways → Text
-more_line (Any any) = []
-more_line (Listed listed) = if listed.more then codes "  (there may be others)\n" else []
+more_line ways = if may_be_more ways then codes "  (there may be others)\n" else []
 
 -- the ways that only start devices
-unfoldable pub ways_lines : Advice → EpochOffset → Text
-ways_lines advice offset =
+unfoldable pub ways_lines : Naming → Advice → Text
+ways_lines naming advice =
     if length advice.ways == 0 then []
     else joined (
     ways_heading advice.explanation.view.verdict
     ∷ shape_line advice.explanation.reasons.ways
-    ∷ each_after_first (outcome_lines offset) [] (codes "or ") advice.ways
+    ∷ outcomes_lines naming advice.ways
     ∷ more_line advice.explanation.reasons.ways
     ∷ [])
 
@@ -138,7 +138,7 @@ ways_lines advice offset =
 abbrev pub resort_heading : Text
 resort_heading = codes "\nLast resort, with no way back. First image each disk, or export what it has of the group (ceph-objectstore-tool\n--op export). A device that is declared lost is lost to all of its groups.\n"
 
--- the ways that declare devices lost
-unfoldable pub resort_lines : List Outcome → EpochOffset → Text
-resort_lines outcomes offset =
-    if length outcomes == 0 then [] else resort_heading ++ each_after_first (outcome_lines offset) [] (codes "or ") outcomes
+-- the ways that declare devices lost, where these are wanted
+unfoldable pub resort_lines : Naming → Option (List Outcome) → Text
+resort_lines naming None = []
+resort_lines naming (Some outcomes) = if length outcomes == 0 then [] else resort_heading ++ outcomes_lines naming outcomes

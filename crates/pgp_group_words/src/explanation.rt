@@ -2,9 +2,9 @@ ghost use Rattle.std.specs.Prelude.{◌≡◌, IfOk};
 ghost use Rattle.pgp_group.specs.Heard.{has_member};
 ghost use Rattle.pgp_group_words.specs.Sentence.{naming_of, unheard_of};
 
-use super::names::Naming;
 use super::offset::EpochOffset;
-use pgp_ids::{Info, Member, PgId, View};
+use super::page::Naming;
+use pgp_ids::{Info, Member, PgId, Seq, View};
 use pgp_reasons::Reasons;
 use std::alloc::{AllocError, Global};
 
@@ -35,17 +35,17 @@ impl Explanation {
 
     /// The members that have to be heard and haven't been, in ascending order.
     #[tactic(auto, unfolding(crate::specs::Sentence::unheard_of))]
-    pub(crate) fn unheard(&self, alloc: Global) -> Result<Vec<Member>, AllocError>
-        ensures { IfOk result (λ members. members.items ≡ unheard_of self.now) }
+    pub(crate) fn unheard(&self, alloc: Global) -> Result<Seq<Member>, AllocError>
+        ensures { IfOk result (λ members. members ≡ unheard_of self.now) }
     {
         let heard = self.reasons.heard.as_slice();
-        self.view
-            .probe
-            .as_slice()
+        let probe = self.view.probe.as_slice();
+        let members: Vec<Member> = probe
             .iter()
             .copied()
             .filter(|member| !is_heard(heard, *member))
-            .collect(alloc)
+            .collect(alloc)?;
+        Ok(Seq::from_vec(members))
     }
 }
 

@@ -1,15 +1,14 @@
 //! A group as JSON.
 
-ghost use Rattle.std.specs.Prelude.{◌≡◌, ◌++◌, ◌∷◌, [], IfOk, OnOk, OnErr, string_bytes};
+ghost use Rattle.std.specs.Prelude.{◌≡◌, ◌++◌, ◌∷◌, [], IfOk, OnErr, OnOk, string_bytes};
 ghost use Rattle.json.specs.Print.{print};
-ghost use Rattle.pgp_text.specs.Written.{fields_tokens, tokens_of};
-ghost use Rattle.pgp_group_words.specs.Json.{advice_data, advice_json, position_fields, reason_fields, resort_fields, sentence_fields, verdict_fields};
+ghost use Rattle.pgp_text.specs.Written.{fields_tokens};
+ghost use Rattle.pgp_group_words.specs.Json.{advice_json, place_fields, resort_fields, verdict_fields};
 
 use super::advice::Advice;
 use super::explanation::Explanation;
 use super::offset::EpochOffset;
 use super::outcome::Outcome;
-use super::sentence::sentence;
 use json::Writer;
 use pgp_ids::Seq;
 use pgp_text::write_field;
@@ -26,75 +25,40 @@ pub fn put_json(
     ensures ok { OnOk result (string_bytes text.new ≡ string_bytes text.old ++ advice_json advice.now offset) }
     ensures err { OnErr result (string_bytes text.new ≡ string_bytes text.old) }
 {
-    let line = line_of(alloc, advice, offset)?;
+    let line = advice.json(alloc, offset)?;
     text.push_str(line.as_str())
 }
 
-/// The object in one line.
-#[tactic(auto, using(pgp_text::proofs::Tokens::text_steps), unfolding(crate::specs::Json::advice_json))]
-fn line_of(alloc: Global, advice: &Advice, offset: EpochOffset) -> Result<String, AllocError>
-    ensures { IfOk result (λ text. string_bytes text ≡ advice_json advice.now offset) }
-{
-    let mut out = Writer::new(Vec::new(alloc));
-    write_advice(alloc, &mut out, offset, advice)?;
-    into_line(out)
+impl Advice {
+    /// The object in one line.
+    fn json(&self, alloc: Global, offset: EpochOffset) -> Result<String, AllocError>
+        ensures { IfOk result (λ text. string_bytes text ≡ advice_json self.now offset) }
+    {
+        let mut out = Writer::new(Vec::new(alloc));
+        out.begin_object()?;
+        write_place(&mut out, offset, &self.explanation)?;
+        write_resorts(&mut out, offset, &self.last_resort)?;
+        write_verdict(alloc, &mut out, offset, self)?;
+        out.end_object()?;
+        into_line(out)
+    }
 }
 
-#[tactic(auto, using(pgp_text::proofs::Tokens::token_steps))]
-fn write_advice(
-    alloc: Global,
-    out: &mut Writer,
-    offset: EpochOffset,
-    advice: &Advice,
-) -> Result<(), AllocError>
+/// Where the group lies, since when, what blocks it, what its log lacks, and whom it has heard.
+fn write_place(out: &mut Writer, offset: EpochOffset, group: &Explanation) -> Result<(), AllocError>
     ensures ok { OnOk result
-        (out.new.tokens ≡ out.old.tokens ++ tokens_of (advice_data offset advice.now)) }
+        (out.new.tokens ≡ out.old.tokens ++ fields_tokens (place_fields offset group.now)) }
     ensures before { out.new.before ≡ out.old.before }
 {
-    let explanation = &advice.explanation;
-    out.begin_object()?;
-    write_place(out, offset, explanation)?;
-    write_reasons(out, offset, explanation)?;
-    write_resorts(out, offset, &advice.last_resort)?;
-    write_sentence(alloc, out, offset, explanation)?;
-    write_verdict(out, offset, advice)?;
-    out.end_object()
-}
-
-/// Where the group lies, what blocks it, and whose copies are complete.
-#[tactic(auto, using(pgp_text::proofs::Tokens::token_steps))]
-fn write_place(
-    out: &mut Writer,
-    offset: EpochOffset,
-    explanation: &Explanation,
-) -> Result<(), AllocError>
-    ensures ok { OnOk result
-        (out.new.tokens ≡ out.old.tokens ++ fields_tokens (position_fields offset explanation.now)) }
-    ensures before { out.new.before ≡ out.old.before }
-{
-    let view = &explanation.view;
-    write_field(out, offset, "acting", &view.acting)?;
-    write_field(out, offset, "acting_primary", &view.acting_primary)?;
-    write_field(out, offset, "blocking", &explanation.reasons.blocking)?;
-    write_field(out, offset, "clean", &explanation.reasons.clean)?;
-    write_field(out, offset, "copies", &explanation.reasons.copies)
-}
-
-/// Since when it is so, what its log lacks, and whom it has heard.
-#[tactic(auto, using(pgp_text::proofs::Tokens::token_steps))]
-fn write_reasons(
-    out: &mut Writer,
-    offset: EpochOffset,
-    explanation: &Explanation,
-) -> Result<(), AllocError>
-    ensures ok { OnOk result
-        (out.new.tokens ≡ out.old.tokens ++ fields_tokens (reason_fields offset explanation.now)) }
-    ensures before { out.new.before ≡ out.old.before }
-{
-    write_field(out, offset, "epoch", &explanation.view.epoch)?;
-    write_field(out, offset, "first", &explanation.view.first)?;
-    write_field(out, offset, "gaps", &explanation.reasons.gaps)?;
-    write_field(out, offset, "heard", &explanation.reasons.heard)
+    write_field(out, offset, "acting", &group.view.acting)?;
+    write_field(out, offset, "acting_primary", &group.view.acting_primary)?;
+    write_field(out, offset, "blocking", &group.reasons.blocking)?;
+    write_field(out, offset, "clean", &group.reasons.clean)?;
+    write_field(out, offset, "copies", &group.reasons.copies)?;
+    write_field(out, offset, "epoch", &group.view.epoch)?;
+    write_field(out, offset, "first", &group.view.first)?;
+    write_field(out, offset, "gaps", &group.reasons.gaps)?;
+    write_field(out, offset, "heard", &group.reasons.heard)
 }
 
 /// The ways that declare devices lost, where these are wanted.
@@ -114,57 +78,40 @@ fn write_resorts(
     }
 }
 
-/// When it last served, the group, the sentence on its verdict, and whom it has to hear yet.
-#[tactic(auto, using(pgp_text::proofs::Tokens::token_steps))]
-fn write_sentence(
+/// When it last served, its verdict and the sentence on it, whom it has to hear yet, and the ways that only start devices.
+fn write_verdict(
     alloc: Global,
     out: &mut Writer,
     offset: EpochOffset,
-    explanation: &Explanation,
+    advice: &Advice,
 ) -> Result<(), AllocError>
-    ensures ok { OnOk result
-        (out.new.tokens ≡ out.old.tokens ++ fields_tokens (sentence_fields offset explanation.now)) }
-    ensures before { out.new.before ≡ out.old.before }
-{
-    let says = sentence(alloc, explanation, offset)?;
-    let unheard = Seq::from_vec(explanation.unheard(alloc)?);
-    write_field(out, offset, "les", &explanation.view.les)?;
-    write_field(out, offset, "pg", &explanation.pg)?;
-    write_field(out, offset, "says", &says.as_str())?;
-    write_field(out, offset, "unheard", &unheard)
-}
-
-/// Where placement puts it, its verdict, and the ways that only start devices.
-#[tactic(auto, using(pgp_text::proofs::Tokens::token_steps))]
-fn write_verdict(out: &mut Writer, offset: EpochOffset, advice: &Advice) -> Result<(), AllocError>
     ensures ok { OnOk result
         (out.new.tokens ≡ out.old.tokens ++ fields_tokens (verdict_fields offset advice.now)) }
     ensures before { out.new.before ≡ out.old.before }
 {
-    let view = &advice.explanation.view;
-    write_field(out, offset, "up", &view.up)?;
-    write_field(out, offset, "up_primary", &view.up_primary)?;
-    write_field(out, offset, "verdict", &view.verdict.name())?;
+    let group = &advice.explanation;
+    let says = group.sentence(alloc, offset)?;
+    let unheard = group.unheard(alloc)?;
+    write_field(out, offset, "les", &group.view.les)?;
+    write_field(out, offset, "pg", &group.pg)?;
+    write_field(out, offset, "says", &says.as_str())?;
+    write_field(out, offset, "unheard", &unheard)?;
+    write_field(out, offset, "up", &group.view.up)?;
+    write_field(out, offset, "up_primary", &group.view.up_primary)?;
+    write_field(out, offset, "verdict", &group.view.verdict.name())?;
     write_field(out, offset, "ways", advice)
 }
 
-/// What was written, with a line feed behind it.
+/// What was written by a writer that had nothing before, with a line feed behind it.
 pub fn into_line(out: Writer) -> Result<String, AllocError>
     requires { out.before ≡ [] }
     ensures { IfOk result (λ text. string_bytes text ≡ print out.tokens ++ 10 ∷ []) }
 {
-    let mut line = text_of(out);
-    line.push('\n')?;
-    Ok(line)
-}
-
-/// What a writer wrote that had nothing before.
-fn text_of(out: Writer) -> String
-    requires { out.before ≡ [] }
-    ensures { string_bytes result ≡ print out.tokens }
-{
     match String::from_utf8(out.into_inner()) {
-        Ok(text) => text,
+        Ok(mut line) => {
+            line.push('\n')?;
+            Ok(line)
+        }
         Err(_) => unreachable!(),
     }
 }

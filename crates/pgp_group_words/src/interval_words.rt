@@ -1,133 +1,122 @@
 //! The past intervals that block a group, in words.
 
-ghost use Rattle.std.specs.Prelude.{◌≡◌, ◌++◌, flat_map, IfOk, OnOk, string_bytes};
+ghost use Rattle.std.specs.Prelude.{◌≡◌, IfOk, OnOk};
 ghost use Rattle.pgp_reasons.specs.Smallest.{holds};
 ghost use Rattle.pgp_group_words.specs.IntervalWords.{down_line, fate_line, fate_lines, interval_lines, member_noun, members_on as members_on_osds, read_write_line, waits_line};
+ghost use Rattle.pgp_group_words.specs.Text.{Puts};
 
-use super::names::{Leader, Naming, are, plural};
-use super::spans::epochs_in;
-use super::words::{devices, members, places};
-use pgp_ids::{Epoch, Member, OsdId, Osds};
+use super::names::{Leader, are, plural};
+use super::page::{InWords, Page};
+use pgp_ids::{Epoch, Member, OsdId, Osds, Seq};
 use pgp_prior::members_of;
 use pgp_reasons::{Blocking, IntervalNow};
 use std::alloc::{AllocError, Global};
 
-/// Puts the intervals behind what `text` has.
-pub(crate) fn put_intervals(
-    alloc: Global,
-    intervals: &[Blocking],
-    naming: Naming,
-    text: &mut String,
-) -> Result<(), AllocError>
-    ensures { OnOk result (string_bytes text.new
-        ≡ string_bytes text.old ++ flat_map (interval_lines naming) intervals.now) }
-{
-    for interval in intervals {
-        put_interval(alloc, interval, naming, text)?;
-    }
-    Ok(())
-}
+impl InWords for Blocking {
+    ghost words = { interval_lines };
 
-#[tactic(auto, unfolding(crate::specs::IntervalWords::interval_lines))]
-fn put_interval(
-    alloc: Global,
-    blocking: &Blocking,
-    naming: Naming,
-    text: &mut String,
-) -> Result<(), AllocError>
-    ensures { OnOk result (string_bytes text.new
-        ≡ string_bytes text.old ++ interval_lines naming blocking.now) }
-{
-    let interval = &blocking.interval;
-    put_waits(alloc, blocking, naming, text)?;
-    put_down(
-        alloc,
-        &interval.acting,
-        interval.down.as_slice(),
-        naming,
-        text,
-    )?;
-    put_fates(alloc, interval, naming, text)?;
-    put_read_write(blocking.clean, naming, interval.acting.first(), text)
-}
-
-/// What has become of its other devices.
-#[tactic(auto, unfolding(crate::specs::IntervalWords::fate_lines))]
-fn put_fates(
-    alloc: Global,
-    interval: &IntervalNow,
-    naming: Naming,
-    text: &mut String,
-) -> Result<(), AllocError>
-    ensures { OnOk result (string_bytes text.new ≡ string_bytes text.old ++ fate_lines interval.now) }
-{
-    let early = "declared lost before it began, which doesn't count for it";
-    put_fate(alloc, interval.lost_before.as_slice(), early, naming, text)?;
-    let lost = "declared lost, and no longer waited for";
-    put_fate(alloc, interval.lost.as_slice(), lost, naming, text)?;
-    let gone = "destroyed, and can't be waited for";
-    put_fate(alloc, interval.gone.as_slice(), gone, naming, text)
-}
-
-/// When the interval was, who served, and what it needs.
-#[tactic(auto, unfolding(crate::specs::IntervalWords::waits_line))]
-fn put_waits(
-    alloc: Global,
-    blocking: &Blocking,
-    naming: Naming,
-    text: &mut String,
-) -> Result<(), AllocError>
-    ensures { OnOk result (string_bytes text.new
-        ≡ string_bytes text.old ++ waits_line naming blocking.now) }
-{
-    let epochs = epochs_in(alloc, &blocking.interval, naming)?;
-    let acting = places(alloc, naming, &blocking.interval.acting)?;
-    let lacks = blocking.lacks;
-    let noun = member_noun(naming.by_place, lacks);
-    writeln!(
-        text,
-        "\nIt waits for the interval of {epochs} on {acting}, which needs {lacks} more {noun}:"
-    )
-}
-
-/// What it needs this many of.
-fn member_noun(by_place: bool, count: usize) -> &'static str
-    ensures { result.now ≡ member_noun by_place count }
-{
-    if by_place {
-        plural(count, "shard", "shards")
-    } else {
-        plural(count, "member", "members")
+    #[tactic(auto, unfolding(crate::specs::IntervalWords::interval_lines))]
+    fn put(&self, page: &mut Page) -> Result<(), AllocError> {
+        let interval = &self.interval;
+        let by_place = page.naming.by_place;
+        let down = members_on(
+            page.alloc(),
+            by_place,
+            &interval.acting,
+            interval.down.as_slice(),
+        )?;
+        page.put_waits(self)?;
+        page.put_down_members(down.as_slice())?;
+        page.put_fates(interval)?;
+        page.put_read_write(self.clean, interval.acting.first())
     }
 }
 
-/// Its members that are down.
-fn put_down(
-    alloc: Global,
-    acting: &Osds,
-    osds: &[OsdId],
-    naming: Naming,
-    text: &mut String,
-) -> Result<(), AllocError>
-    ensures { OnOk result (string_bytes text.new
-        ≡ string_bytes text.old ++ down_line naming (members_on_osds naming.by_place acting.now osds.now)) }
-{
-    let down = members_on(alloc, naming.by_place, acting, osds)?;
-    put_down_members(alloc, down.as_slice(), naming, text)
-}
+impl Page {
+    /// When the interval was, who served, and what it needs.
+    #[tactic(auto, unfolding(crate::specs::IntervalWords::waits_line))]
+    fn put_waits(&mut self, blocking: &Blocking) -> Result<(), AllocError>
+        ensures { OnOk result (Puts self.old self.new (waits_line self.old.naming blocking.now)) }
+    {
+        let epochs = self.epochs_in(&blocking.interval)?;
+        let acting = self.places(&blocking.interval.acting)?;
+        let lacks = blocking.lacks;
+        let noun = self.member_noun(lacks);
+        writeln!(
+            self,
+            "It waits for the interval of {epochs} on {acting}, which needs {lacks} more {noun}:"
+        )
+    }
 
-#[tactic(auto, unfolding(crate::specs::IntervalWords::down_line))]
-fn put_down_members(
-    alloc: Global,
-    down: &[Member],
-    naming: Naming,
-    text: &mut String,
-) -> Result<(), AllocError>
-    ensures { OnOk result (string_bytes text.new ≡ string_bytes text.old ++ down_line naming down.now) }
-{
-    let names = members(alloc, naming, down)?;
-    let are = are(down.len());
-    writeln!(text, "  {names} {are} down")
+    /// What an interval needs this many of.
+    fn member_noun(&self, count: usize) -> &'static str
+        ensures { result.now ≡ member_noun self.now.naming.by_place count }
+    {
+        if self.naming.by_place {
+            plural(count, "shard", "shards")
+        } else {
+            plural(count, "member", "members")
+        }
+    }
+
+    /// Its members that are down.
+    #[tactic(auto, unfolding(crate::specs::IntervalWords::down_line))]
+    fn put_down_members(&mut self, down: &[Member]) -> Result<(), AllocError>
+        ensures { OnOk result (Puts self.old self.new (down_line self.old.naming down.now)) }
+    {
+        let names = self.list(down)?;
+        let are = are(down.len());
+        writeln!(self, "  {names} {are} down")
+    }
+
+    /// What has become of its other devices.
+    #[tactic(auto, unfolding(crate::specs::IntervalWords::fate_lines))]
+    fn put_fates(&mut self, interval: &IntervalNow) -> Result<(), AllocError>
+        ensures { OnOk result (Puts self.old self.new (fate_lines interval.now)) }
+    {
+        let early = "declared lost before it began, which doesn't count for it";
+        self.put_fate(&interval.lost_before, early)?;
+        self.put_fate(&interval.lost, "declared lost, and no longer waited for")?;
+        self.put_fate(&interval.gone, "destroyed, and can't be waited for")
+    }
+
+    /// What has become of these devices, if there are some.
+    #[tactic(auto, unfolding(crate::specs::IntervalWords::fate_line))]
+    fn put_fate(&mut self, osds: &Seq<OsdId>, fate: &str) -> Result<(), AllocError>
+        ensures { OnOk result (Puts self.old self.new (fate_line fate.now osds.now)) }
+    {
+        if osds.is_empty() {
+            return Ok(());
+        }
+        let names = self.list(osds.as_slice())?;
+        let were = plural(osds.len(), "was", "were");
+        writeln!(self, "  {names} {were} {fate}")
+    }
+
+    /// Why an interval may have gone read-write, whose primary is this.
+    #[tactic(auto, unfolding(crate::specs::IntervalWords::read_write_line))]
+    fn put_read_write(
+        &mut self,
+        clean: Option<Epoch>,
+        primary: Option<OsdId>,
+    ) -> Result<(), AllocError>
+        ensures { OnOk result (Puts self.old self.new (read_write_line self.old.naming clean primary)) }
+    {
+        match clean {
+            Some(clean) => {
+                let epoch = self.epoch(clean);
+                writeln!(
+                    self,
+                    "  it may have gone read-write: a report says that the group was clean in epoch {epoch}"
+                )
+            }
+            None => writeln!(
+                self,
+                "  it may have gone read-write: the map recorded that its primary, {}, was up in it",
+                Leader(primary),
+            ),
+        }
+    }
 }
 
 /// The acting members on these devices, in the order of their places.
@@ -153,48 +142,4 @@ fn is_one_of(osds: &[OsdId], osd: OsdId) -> bool
     ensures { result ≡ holds osds.now osd }
 {
     osds.contains(&osd)
-}
-
-/// What has become of these devices, if there are some.
-#[tactic(auto, unfolding(crate::specs::IntervalWords::fate_line))]
-fn put_fate(
-    alloc: Global,
-    osds: &[OsdId],
-    fate: &str,
-    naming: Naming,
-    text: &mut String,
-) -> Result<(), AllocError>
-    ensures { OnOk result (string_bytes text.new ≡ string_bytes text.old ++ fate_line fate.now osds.now) }
-{
-    if osds.is_empty() {
-        return Ok(());
-    }
-    let names = devices(alloc, naming, osds)?;
-    let were = plural(osds.len(), "was ", "were ");
-    writeln!(text, "  {names} {were}{fate}")
-}
-
-/// Why an interval may have gone read-write, whose primary is this.
-#[tactic(auto, unfolding(crate::specs::IntervalWords::read_write_line))]
-fn put_read_write(
-    clean: Option<Epoch>,
-    naming: Naming,
-    primary: Option<OsdId>,
-    text: &mut String,
-) -> Result<(), AllocError>
-    ensures { OnOk result (string_bytes text.new
-        ≡ string_bytes text.old ++ read_write_line clean naming.offset primary) }
-{
-    match clean {
-        Some(clean) => writeln!(
-            text,
-            "  it may have gone read-write: a report says that the group was clean in epoch {}",
-            naming.epoch(clean),
-        ),
-        None => writeln!(
-            text,
-            "  it may have gone read-write: the map recorded that its primary, {}, was up in it",
-            Leader(primary),
-        ),
-    }
 }

@@ -1,8 +1,7 @@
 //! What is told of a group, as JSON.
 
-ghost use Rattle.std.specs.Prelude.{◌≡◌, ◌++◌, OnOk};
-ghost use Rattle.pgp_text.specs.Written.{fields_tokens};
-ghost use Rattle.pgp_group_words.specs.Json.{blocking_data, copies_data, copy_fields, fate_fields, fate_name, gap_data, info_data, interval_now_data, log_fields, span_fields};
+ghost use Rattle.std.specs.Prelude.{◌≡◌};
+ghost use Rattle.pgp_group_words.specs.Json.{blocking_data, copies_data, fate_name, gap_data, info_data, interval_now_data};
 
 use super::offset::EpochOffset;
 use json::Writer;
@@ -20,89 +19,41 @@ impl Json<EpochOffset> for Gap {
     }
 }
 
+/// Who sent an info, and when, how far its copy goes, and how far its log.
 impl Json<EpochOffset> for Info {
     ghost value = { info_data };
 
-    #[tactic(auto, using(pgp_text::proofs::Tokens::token_steps))]
     fn write(&self, out: &mut Writer, offset: EpochOffset) -> Result<(), AllocError> {
         out.begin_object()?;
-        write_copy(out, offset, self)?;
-        write_log(out, offset, self)?;
+        write_field(out, offset, "complete", &self.complete)?;
+        write_field(out, offset, "from", &self.member)?;
+        write_field(out, offset, "history_les", &self.history_les)?;
+        write_field(out, offset, "last_epoch_clean", &self.last_epoch_clean)?;
+        write_field(out, offset, "last_update", &self.last_update)?;
+        write_field(out, offset, "les", &self.les)?;
+        write_field(out, offset, "log_tail", &self.log_tail)?;
+        write_field(out, offset, "stamp", &self.stamp)?;
         out.end_object()
     }
 }
 
-/// Who sent an info, and how far its copy goes.
-#[tactic(auto, using(pgp_text::proofs::Tokens::token_steps))]
-fn write_copy(out: &mut Writer, offset: EpochOffset, info: &Info) -> Result<(), AllocError>
-    ensures ok { OnOk result
-        (out.new.tokens ≡ out.old.tokens ++ fields_tokens (copy_fields offset info.now)) }
-    ensures before { out.new.before ≡ out.old.before }
-{
-    write_field(out, offset, "complete", &info.complete)?;
-    write_field(out, offset, "from", &info.member)?;
-    write_field(out, offset, "history_les", &info.history_les)?;
-    write_field(out, offset, "last_epoch_clean", &info.last_epoch_clean)
-}
-
-/// How far its log goes, and when it was sent.
-#[tactic(auto, using(pgp_text::proofs::Tokens::token_steps))]
-fn write_log(out: &mut Writer, offset: EpochOffset, info: &Info) -> Result<(), AllocError>
-    ensures ok { OnOk result
-        (out.new.tokens ≡ out.old.tokens ++ fields_tokens (log_fields offset info.now)) }
-    ensures before { out.new.before ≡ out.old.before }
-{
-    write_field(out, offset, "last_update", &info.last_update)?;
-    write_field(out, offset, "les", &info.les)?;
-    write_field(out, offset, "log_tail", &info.log_tail)?;
-    write_field(out, offset, "stamp", &info.stamp)
-}
-
+/// Who served in a past interval, what has become of them, and of its writes.
 impl Json<EpochOffset> for IntervalNow {
     ghost value = { interval_now_data };
 
-    #[tactic(auto, using(pgp_text::proofs::Tokens::token_steps))]
     fn write(&self, out: &mut Writer, offset: EpochOffset) -> Result<(), AllocError> {
         out.begin_object()?;
-        write_span(out, offset, self)?;
-        write_fates(out, offset, self)?;
+        write_field(out, offset, "acting", &self.acting)?;
+        write_field(out, offset, "down", &self.down)?;
+        write_field(out, offset, "first", &self.first)?;
+        write_field(out, offset, "gone", &self.gone)?;
+        write_field(out, offset, "last", &self.last)?;
+        write_field(out, offset, "lost", &self.lost)?;
+        write_field(out, offset, "lost_before", &self.lost_before)?;
+        write_field(out, offset, "up", &self.up)?;
+        write_field(out, offset, "writes", &writes_name(self.writes))?;
         out.end_object()
     }
-}
-
-/// Who served in a past interval, and who of them is down or destroyed.
-#[tactic(auto, using(pgp_text::proofs::Tokens::token_steps))]
-fn write_span(
-    out: &mut Writer,
-    offset: EpochOffset,
-    interval: &IntervalNow,
-) -> Result<(), AllocError>
-    ensures ok { OnOk result
-        (out.new.tokens ≡ out.old.tokens ++ fields_tokens (span_fields offset interval.now)) }
-    ensures before { out.new.before ≡ out.old.before }
-{
-    write_field(out, offset, "acting", &interval.acting)?;
-    write_field(out, offset, "down", &interval.down)?;
-    write_field(out, offset, "first", &interval.first)?;
-    write_field(out, offset, "gone", &interval.gone)?;
-    write_field(out, offset, "last", &interval.last)
-}
-
-/// Who was declared lost, who is up, and what has become of its writes.
-#[tactic(auto, using(pgp_text::proofs::Tokens::token_steps))]
-fn write_fates(
-    out: &mut Writer,
-    offset: EpochOffset,
-    interval: &IntervalNow,
-) -> Result<(), AllocError>
-    ensures ok { OnOk result
-        (out.new.tokens ≡ out.old.tokens ++ fields_tokens (fate_fields interval.now)) }
-    ensures before { out.new.before ≡ out.old.before }
-{
-    write_field(out, offset, "lost", &interval.lost)?;
-    write_field(out, offset, "lost_before", &interval.lost_before)?;
-    write_field(out, offset, "up", &interval.up)?;
-    write_field(out, offset, "writes", &writes_name(interval.writes))
 }
 
 fn writes_name(writes: Writes) -> &'static str

@@ -1,10 +1,11 @@
 //! The members that were heard and lack something of the best copy.
 
-ghost use Rattle.std.specs.Prelude.{◌≡◌, ◌++◌, filter_map, IfOk, OnOk, string_bytes};
-ghost use Rattle.pgp_group_words.specs.Lags.{lag_of as lag_of_state, laggard_of as laggard_of_peer, lag_name};
+ghost use Rattle.std.specs.Prelude.{◌≡◌, filter_map, IfOk, OnOk};
+ghost use Rattle.pgp_group_words.specs.Lags.{laggard_of as laggard_of_peer, lag_of as lag_of_state, laggard_name, lag_name};
+ghost use Rattle.pgp_group_words.specs.Text.{Puts};
 
-use super::names::{Naming, plural};
-use super::words::Word;
+use super::names::plural;
+use super::page::{InWords, Page};
 use pgp_ids::{Member, PeerMissing, PeerState};
 use std::alloc::{AllocError, Global};
 
@@ -30,16 +31,16 @@ pub(crate) struct Laggard {
 pub(crate) fn laggards(alloc: Global, peers: &[PeerMissing]) -> Result<Vec<Laggard>, AllocError>
     ensures { IfOk result (λ list. list.items ≡ filter_map laggard_of_peer peers.now) }
 {
-    let mut list = Vec::new(alloc);
-    for peer in peers {
-        if let Some(lag) = lag_of(&peer.state) {
-            list.push(Laggard {
-                member: peer.member,
-                lag,
-            })?;
-        }
-    }
-    Ok(list)
+    peers.iter().filter_map(laggard_of).collect(alloc)
+}
+
+/// The member with what it lacks, where it lacks something.
+fn laggard_of(peer: &PeerMissing) -> Option<Laggard>
+    ensures { result ≡ laggard_of_peer peer.now }
+{
+    let lag = lag_of(&peer.state)?;
+    let member = peer.member;
+    Some(Laggard { member, lag })
 }
 
 /// What a member of this state lacks, where it lacks something.
@@ -57,27 +58,26 @@ fn lag_of(state: &PeerState) -> Option<Lag>
 }
 
 /// A member, and what it lacks.
-impl Word for Laggard {
-    ghost use Rattle.pgp_group_words.specs.Lags.{laggard_name};
+impl InWords for Laggard {
+    ghost words = { laggard_name };
 
-    ghost word = { laggard_name };
-
-    fn put(&self, naming: Naming, text: &mut String) -> Result<(), AllocError> {
-        self.member.put(naming, text)?;
-        put_lag(self.lag, text)
+    fn put(&self, page: &mut Page) -> Result<(), AllocError> {
+        self.member.put(page)?;
+        page.put_lag(self.lag)
     }
 }
 
-/// What a member lacks.
-fn put_lag(lag: Lag, text: &mut String) -> Result<(), AllocError>
-    ensures { OnOk result (string_bytes text.new ≡ string_bytes text.old ++ lag_name lag) }
-{
-    match lag {
-        Lag::Objects(count) => {
-            let objects = plural(count, "object", "objects");
-            write!(text, " lacks {count} {objects}")
+impl Page {
+    fn put_lag(&mut self, lag: Lag) -> Result<(), AllocError>
+        ensures { OnOk result (Puts self.old self.new (lag_name lag)) }
+    {
+        match lag {
+            Lag::Objects(count) => {
+                let objects = plural(count, "object", "objects");
+                write!(self, " lacks {count} {objects}")
+            }
+            Lag::Backfill => self.push_str(" needs a backfill"),
+            Lag::Diverged => self.push_str(" has diverged"),
         }
-        Lag::Backfill => text.push_str(" needs a backfill"),
-        Lag::Diverged => text.push_str(" has diverged"),
     }
 }

@@ -1,23 +1,10 @@
-//! How groups, devices, members and epochs are named in words.
+//! How devices are named in words, who leads a group, and which words go with a number.
 
 ghost use Rattle.std.specs.Prelude.{◌≡◌, Some};
-ghost use Rattle.pgp_group_words.specs.Names.{are as verb_for, cluster_epoch, device_name, group_name, leader_name, plural as noun_for};
+ghost use Rattle.pgp_group_words.specs.Names.{are as verb_for, device_name, leader_name, plural as noun_for};
 
-use super::offset::EpochOffset;
-use pgp_ids::{Epoch, OsdId, PgId};
+use pgp_ids::OsdId;
 use std::fmt;
-
-/// A group, as Ceph writes it: its pool, and its number in hexadecimal.
-#[derive(Clone, Copy)]
-pub(crate) struct Group(pub PgId);
-
-impl fmt::Display for Group {
-    ghost output = { λ group. Some (group_name group.0) };
-
-    fn fmt<W: fmt::Write>(&self, f: &mut fmt::Formatter<W>) -> fmt::Result {
-        write!(f, "{}.{:x}", self.0.pool.number(), self.0.pg)
-    }
-}
 
 /// A device, as Ceph writes it.
 #[derive(Clone, Copy)]
@@ -43,22 +30,6 @@ impl fmt::Display for Leader {
             Some(osd) => write!(f, "osd.{}", osd.number()),
             None => write!(f, "nobody"),
         }
-    }
-}
-
-/// How members and epochs are named.
-#[derive(Clone, Copy)]
-pub(crate) struct Naming {
-    /// Whether a member is named with its slot.
-    pub by_place: bool,
-    pub offset: EpochOffset,
-}
-
-impl Naming {
-    pub fn epoch(self, epoch: Epoch) -> u64
-        ensures { result ≡ cluster_epoch self.offset epoch }
-    {
-        self.offset.cluster_epoch(epoch)
     }
 }
 

@@ -1,9 +1,10 @@
-ghost use Rattle.std.specs.Prelude.{◌≡◌, ◌++◌, IfOk, OnOk, string_bytes};
+ghost use Rattle.std.specs.Prelude.{◌≡◌, IfOk, OnOk, string_bytes};
+ghost use Rattle.pgp_group_words.specs.Text.{Puts};
 ghost use Rattle.pgp_group_words.specs.WaysWords.{has_too_few, later_part, says_then};
 
 use super::explanation::Explanation;
 use super::offset::EpochOffset;
-use super::sentence::{few, sentence};
+use super::page::Page;
 use pgp_ids::{OsdId, Seq, Verdict};
 use pgp_reasons::Price;
 use std::alloc::{AllocError, Global};
@@ -31,32 +32,31 @@ pub struct Then {
 impl Then {
     /// What there is to say of a group after a way.
     #[tactic(auto, unfolding(crate::specs::WaysWords::says_then))]
-    pub fn of(
-        alloc: Global,
-        explanation: &Explanation,
-        offset: EpochOffset,
-    ) -> Result<Self, AllocError>
-        ensures verdict { IfOk result (λ then. then.verdict ≡ explanation.now.view.verdict) }
-        ensures says { IfOk result (λ then. string_bytes then.says ≡ says_then explanation.now offset) }
+    pub fn of(alloc: Global, group: &Explanation, offset: EpochOffset) -> Result<Self, AllocError>
+        ensures verdict { IfOk result (λ then. then.verdict ≡ group.now.view.verdict) }
+        ensures says { IfOk result (λ then. string_bytes then.says ≡ says_then group.now offset) }
     {
-        let mut says = sentence(alloc, explanation, offset)?;
-        put_later(alloc, explanation, &mut says)?;
+        let mut page = Page::new(alloc, group.naming(offset));
+        page.put_sentence(group)?;
+        page.put_later(group)?;
         Ok(Then {
-            verdict: explanation.view.verdict,
-            says,
+            verdict: group.view.verdict,
+            says: page.text,
         })
     }
 }
 
-/// That it has too few members besides, where it has yet to hear some.
-fn put_later(alloc: Global, explanation: &Explanation, text: &mut String) -> Result<(), AllocError>
-    ensures { OnOk result (string_bytes text.new ≡ string_bytes text.old ++ later_part explanation.now) }
-{
-    if explanation.view.verdict == Verdict::Waiting && is_short(explanation) {
-        let few = few(alloc, explanation)?;
-        write!(text, " {few}")
-    } else {
-        Ok(())
+impl Page {
+    /// That it has too few members besides, where it has yet to hear some.
+    fn put_later(&mut self, explanation: &Explanation) -> Result<(), AllocError>
+        ensures { OnOk result (Puts self.old self.new (later_part explanation.now)) }
+    {
+        if explanation.view.verdict == Verdict::Waiting && is_short(explanation) {
+            self.push_str(" ")?;
+            self.put_few(explanation)
+        } else {
+            Ok(())
+        }
     }
 }
 

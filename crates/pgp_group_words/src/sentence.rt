@@ -1,182 +1,288 @@
 //! What a group waits for, in one sentence.
 
-ghost use Rattle.std.specs.Prelude.{◌≡◌, ◌==◌, ◌<◌, ◌++◌, Some, length, IfOk, OnOk, string_bytes, decimal, if◌then◌else◌};
-ghost use Rattle.pgp_group_words.specs.Sentence.{informed as informed_of, informed_beside_complete as informed_beside, none_recent as none_recent_of, behind_part, clean_part, fallen_part, held_part, starters_part, unread_part, few as few_of, few_members as few_members_of, few_shards as few_shards_of, lacking_log as lacking_log_of, not_recent as not_recent_of, on_down as on_down_of, on_incomplete as on_incomplete_of, on_no_primary as on_no_primary_of, on_log as on_log_of, on_serving as on_serving_of, on_short as on_short_of, on_up_thru as on_up_thru_of, on_waiting as on_waiting_of, sentence_of, unordered_log};
+ghost use Rattle.std.specs.Prelude.{◌≡◌, ◌<◌, IfOk, OnOk, string_bytes};
 ghost use Rattle.std.specs.List.{list_any};
 ghost use Rattle.std.specs.Option.{option_copied};
+ghost use Rattle.pgp_group_words.specs.Sentence.{behind_part, fallen_part, few, few_members, few_shards, held_part, informed as informed_of, informed_beside_complete as informed_beside, log_of, naming_of, none_recent, not_recent, on_down, on_incomplete, on_log, on_no_primary, on_serving, on_short, on_up_thru, on_waiting, osds_part, sentence_of, starters_part, unread_part};
+ghost use Rattle.pgp_group_words.specs.Text.{Puts};
 
 use super::explanation::Explanation;
 use super::lags::{Laggard, laggards};
-use super::names::{Leader, Naming, are, plural};
+use super::names::{Leader, are, plural};
 use super::offset::EpochOffset;
-use super::spans::{epochs, epochs_in, writes};
-use super::words::{devices, listed, members, name};
-use pgp_ids::{Info, Member, OsdId, Verdict};
-use pgp_reasons::{Gap, IntervalNow};
+use super::page::Page;
+use pgp_ids::{Epoch, Info, Member, OsdId, Verdict};
+use pgp_reasons::{Gap, IntervalNow, Reasons};
 use std::alloc::{AllocError, Global};
 
-/// The sentence on the verdict of a group.
-#[tactic(auto, unfolding(crate::specs::Sentence::sentence_of))]
-pub(crate) fn sentence(
-    alloc: Global,
-    explanation: &Explanation,
-    offset: EpochOffset,
-) -> Result<String, AllocError>
-    ensures { IfOk result (λ text. string_bytes text ≡ sentence_of explanation.now offset) }
-{
-    let view = &explanation.view;
-    let reasons = &explanation.reasons;
-    let naming = explanation.naming(offset);
-    match view.verdict {
-        Verdict::NoPrimary => on_no_primary(alloc, explanation, offset),
-        Verdict::Down => on_down(alloc, explanation, offset),
-        Verdict::Waiting => on_waiting(alloc, explanation, naming),
-        Verdict::Incomplete => on_incomplete(alloc, explanation, offset),
-        Verdict::Short => on_short(alloc, explanation, naming),
-        Verdict::NeedLog => on_log(alloc, view.best, reasons.gaps.as_slice(), naming),
-        Verdict::NeedUpThru => on_up_thru(alloc, view.acting_primary, naming.epoch(view.first)),
-        Verdict::Serve => on_serving(alloc, explanation, naming),
+impl Explanation {
+    /// The sentence on the verdict of the group.
+    pub(crate) fn sentence(&self, alloc: Global, offset: EpochOffset) -> Result<String, AllocError>
+        ensures { IfOk result (λ text. string_bytes text ≡ sentence_of (naming_of self.now offset) self.now) }
+    {
+        let mut page = Page::new(alloc, self.naming(offset));
+        page.put_sentence(self)?;
+        Ok(page.text)
     }
 }
 
-/// Writes may be on devices that are down alone.
-#[tactic(auto, unfolding(crate::specs::Sentence::on_down))]
-fn on_down(
-    alloc: Global,
-    explanation: &Explanation,
-    offset: EpochOffset,
-) -> Result<String, AllocError>
-    ensures { IfOk result (λ text. string_bytes text ≡ on_down_of explanation.now offset) }
-{
-    let naming = explanation.naming(offset);
-    let blocked_by = explanation.view.blocked_by.as_slice();
-    let down = devices(alloc, naming, blocked_by)?;
-    let epochs = epochs(alloc, naming, explanation.reasons.blocking.as_slice())?;
-    format!(in alloc;
-        "It waits for {down}, which {} down: writes may have been taken in {epochs}, and too few of the devices that took them are up.",
-        are(blocked_by.len()),
-    )
-}
-
-/// Members that are up haven't told of their copies.
-#[tactic(auto, unfolding(crate::specs::Sentence::on_waiting))]
-fn on_waiting(
-    alloc: Global,
-    explanation: &Explanation,
-    naming: Naming,
-) -> Result<String, AllocError>
-    ensures { IfOk result (λ text. string_bytes text ≡ on_waiting_of explanation.now naming) }
-{
-    let unheard = explanation.unheard(alloc)?;
-    let members = members(alloc, naming, unheard.as_slice())?;
-    format!(in alloc; "It has yet to hear from {members}.")
-}
-
-/// Nobody leads it.
-#[tactic(auto, unfolding(crate::specs::Sentence::on_no_primary))]
-fn on_no_primary(
-    alloc: Global,
-    explanation: &Explanation,
-    offset: EpochOffset,
-) -> Result<String, AllocError>
-    ensures { IfOk result (λ text. string_bytes text ≡ on_no_primary_of explanation.now offset) }
-{
-    let mut text = String::from_str(
-        alloc,
-        "No device of its acting set is up, so nobody leads it.",
-    )?;
-    put_starters(alloc, explanation, offset, &mut text)?;
-    Ok(text)
-}
-
-/// No copy may be followed.
-#[tactic(auto, unfolding(crate::specs::Sentence::on_incomplete))]
-fn on_incomplete(
-    alloc: Global,
-    explanation: &Explanation,
-    offset: EpochOffset,
-) -> Result<String, AllocError>
-    ensures { IfOk result (λ text. string_bytes text ≡ on_incomplete_of explanation.now offset) }
-{
-    let heard = explanation.reasons.heard.as_slice();
-    let mut text = none_recent(alloc, heard, explanation.naming(offset))?;
-    put_starters(alloc, explanation, offset, &mut text)?;
-    Ok(text)
-}
-
-/// No copy that was heard of is complete and recent enough.
-fn none_recent(alloc: Global, heard: &[Info], naming: Naming) -> Result<String, AllocError>
-    ensures { IfOk result (λ text. string_bytes text ≡ none_recent_of (informed_beside heard.now) naming) }
-{
-    match informed_beside_complete(heard) {
-        Some(info) => not_recent(alloc, info, naming),
-        None => String::from_str(alloc, "No complete copy was heard of."),
+impl Page {
+    /// The sentence on the verdict of a group.
+    #[tactic(auto, unfolding(crate::specs::Sentence::sentence_of))]
+    pub fn put_sentence(&mut self, explanation: &Explanation) -> Result<(), AllocError>
+        ensures { OnOk result (Puts self.old self.new (sentence_of self.old.naming explanation.now)) }
+    {
+        let view = &explanation.view;
+        let reasons = &explanation.reasons;
+        match view.verdict {
+            Verdict::NoPrimary => self.put_no_primary(reasons),
+            Verdict::Down => self.put_down(explanation),
+            Verdict::Waiting => self.put_waiting(explanation),
+            Verdict::Incomplete => self.put_incomplete(reasons),
+            Verdict::Short => self.put_short(explanation),
+            Verdict::NeedLog => self.put_need_log(view.best, reasons.gaps.as_slice()),
+            Verdict::NeedUpThru => self.put_need_up_thru(view.acting_primary, view.first),
+            Verdict::Serve => self.put_serve(explanation),
+        }
     }
-}
 
-/// Who might be started.
-fn put_starters(
-    alloc: Global,
-    explanation: &Explanation,
-    offset: EpochOffset,
-    text: &mut String,
-) -> Result<(), AllocError>
-    ensures { OnOk result (string_bytes text.new ≡ string_bytes text.old ++ starters_part explanation.now offset) }
-{
-    let naming = explanation.naming(offset);
-    let fallen = explanation.reasons.short.fallen.as_slice();
-    match &explanation.reasons.clean {
-        Some(clean) => put_held_or_fallen(alloc, clean, fallen, naming, text),
-        None => put_fallen(alloc, fallen, naming, text),
+    /// Writes may be on devices that are down alone.
+    #[tactic(auto, unfolding(crate::specs::Sentence::on_down))]
+    fn put_down(&mut self, explanation: &Explanation) -> Result<(), AllocError>
+        ensures { OnOk result (Puts self.old self.new (on_down self.old.naming explanation.now)) }
+    {
+        let blocked_by = explanation.view.blocked_by.as_slice();
+        let down = self.list(blocked_by)?;
+        let are = are(blocked_by.len());
+        let epochs = self.epochs(explanation.reasons.blocking.as_slice())?;
+        write!(
+            self,
+            "It waits for {down}, which {are} down: writes may have been taken in {epochs}, and too few of the devices that took them are up."
+        )
     }
-}
 
-/// Who of those that were complete when the group was last clean is down, or else who of those that served it last.
-fn put_held_or_fallen(
-    alloc: Global,
-    clean: &IntervalNow,
-    fallen: &[OsdId],
-    naming: Naming,
-    text: &mut String,
-) -> Result<(), AllocError>
-    ensures { OnOk result (string_bytes text.new ≡ string_bytes text.old ++ clean_part (Some clean.now) fallen.now naming.offset) }
-{
-    if clean.down.is_empty() {
-        put_fallen(alloc, fallen, naming, text)
-    } else {
-        put_held(alloc, clean, naming, text)
+    /// Members that are up haven't told of their copies.
+    #[tactic(auto, unfolding(crate::specs::Sentence::on_waiting))]
+    fn put_waiting(&mut self, explanation: &Explanation) -> Result<(), AllocError>
+        ensures { OnOk result (Puts self.old self.new (on_waiting self.old.naming explanation.now)) }
+    {
+        let unheard = explanation.unheard(self.alloc())?;
+        let members = self.list(unheard.as_slice())?;
+        write!(self, "It has yet to hear from {members}.")
     }
-}
 
-/// Who of those that were complete when the group was last clean is down.
-#[tactic(auto, unfolding(crate::specs::Sentence::held_part))]
-fn put_held(
-    alloc: Global,
-    interval: &IntervalNow,
-    naming: Naming,
-    text: &mut String,
-) -> Result<(), AllocError>
-    ensures { OnOk result (string_bytes text.new ≡ string_bytes text.old ++ held_part interval.now naming.offset) }
-{
-    let epochs = epochs_in(alloc, interval, naming)?;
-    let down = devices(alloc, naming, interval.down.as_slice())?;
-    write!(
-        text,
-        " Of those that were complete in {epochs}, when it was last clean, {down} {} down.",
-        are(interval.down.len())
-    )
-}
+    /// Nobody leads it.
+    #[tactic(auto, unfolding(crate::specs::Sentence::on_no_primary))]
+    fn put_no_primary(&mut self, reasons: &Reasons) -> Result<(), AllocError>
+        ensures { OnOk result (Puts self.old self.new (on_no_primary self.old.naming reasons.now)) }
+    {
+        self.push_str("No device of its acting set is up, so nobody leads it.")?;
+        self.put_starters(reasons)
+    }
 
-/// Complete copies are older than what this info knows of.
-#[tactic(auto, unfolding(crate::specs::Sentence::not_recent))]
-fn not_recent(alloc: Global, info: &Info, naming: Naming) -> Result<String, AllocError>
-    ensures { IfOk result (λ text. string_bytes text ≡ not_recent_of info.now naming) }
-{
-    let member = name(alloc, naming, &info.member)?;
-    format!(in alloc;
-        "No copy that was heard of is complete and recent enough: {member} knows that the group served in epoch {}, and no complete copy has served since.",
-        naming.epoch(info.history_les),
-    )
+    /// No copy may be followed.
+    #[tactic(auto, unfolding(crate::specs::Sentence::on_incomplete))]
+    fn put_incomplete(&mut self, reasons: &Reasons) -> Result<(), AllocError>
+        ensures { OnOk result (Puts self.old self.new (on_incomplete self.old.naming reasons.now)) }
+    {
+        self.put_none_recent(reasons.heard.as_slice())?;
+        self.put_starters(reasons)
+    }
+
+    /// No copy that was heard of is complete and recent enough.
+    fn put_none_recent(&mut self, heard: &[Info]) -> Result<(), AllocError>
+        ensures { OnOk result (Puts self.old self.new (none_recent self.old.naming (informed_beside heard.now))) }
+    {
+        match informed_beside_complete(heard) {
+            Some(info) => self.put_not_recent(info),
+            None => self.push_str("No complete copy was heard of."),
+        }
+    }
+
+    /// Complete copies are older than what this info knows of.
+    #[tactic(auto, unfolding(crate::specs::Sentence::not_recent))]
+    fn put_not_recent(&mut self, info: &Info) -> Result<(), AllocError>
+        ensures { OnOk result (Puts self.old self.new (not_recent self.old.naming info.now)) }
+    {
+        let member = self.name(&info.member)?;
+        let epoch = self.epoch(info.history_les);
+        write!(
+            self,
+            "No copy that was heard of is complete and recent enough: {member} knows that the group served in epoch {epoch}, and no complete copy has served since."
+        )
+    }
+
+    /// Who might be started.
+    fn put_starters(&mut self, reasons: &Reasons) -> Result<(), AllocError>
+        ensures { OnOk result (Puts self.old self.new (starters_part self.old.naming reasons.now)) }
+    {
+        match &reasons.clean {
+            Some(clean) if !clean.down.is_empty() => self.put_held(clean),
+            _ => self.put_fallen(reasons.short.fallen.as_slice()),
+        }
+    }
+
+    /// Who of those that were complete when the group was last clean is down.
+    #[tactic(auto, unfolding(crate::specs::Sentence::held_part))]
+    fn put_held(&mut self, interval: &IntervalNow) -> Result<(), AllocError>
+        ensures { OnOk result (Puts self.old self.new (held_part self.old.naming interval.now)) }
+    {
+        let epochs = self.epochs_in(interval)?;
+        let down = self.list(interval.down.as_slice())?;
+        let are = are(interval.down.len());
+        write!(
+            self,
+            " Of those that were complete in {epochs}, when it was last clean, {down} {are} down."
+        )
+    }
+
+    /// Who of those that served the group last is down.
+    fn put_fallen(&mut self, osds: &[OsdId]) -> Result<(), AllocError>
+        ensures { OnOk result (Puts self.old self.new (fallen_part osds.now)) }
+    {
+        let are_down = plural(osds.len(), " is down.", " are down.");
+        self.put_osds(" Of those that served it last, ", osds, are_down)
+    }
+
+    /// Puts the devices, if there are some, with this before and that behind them.
+    pub fn put_osds(&mut self, before: &str, osds: &[OsdId], after: &str) -> Result<(), AllocError>
+        ensures { OnOk result (Puts self.old self.new (osds_part before.now osds.now after.now)) }
+    {
+        if osds.is_empty() {
+            return Ok(());
+        }
+        let names = self.list(osds)?;
+        write!(self, "{before}{names}{after}")
+    }
+
+    /// The acting set has too few members, or they hold too few shards.
+    #[tactic(auto, unfolding(crate::specs::Sentence::on_short))]
+    fn put_short(&mut self, explanation: &Explanation) -> Result<(), AllocError>
+        ensures { OnOk result (Puts self.old self.new (on_short explanation.now)) }
+    {
+        self.put_few(explanation)?;
+        self.put_fallen(explanation.reasons.short.fallen.as_slice())
+    }
+
+    /// What the acting set lacks.
+    pub fn put_few(&mut self, explanation: &Explanation) -> Result<(), AllocError>
+        ensures { OnOk result (Puts self.old self.new (few explanation.now)) }
+    {
+        let members = explanation.view.acting.osd_count();
+        let least = usize::from(explanation.min_size);
+        if members >= least {
+            self.put_few_shards(explanation.reasons.short.lacks)
+        } else {
+            self.put_few_members(members, least)
+        }
+    }
+
+    /// It has too few members.
+    #[tactic(auto, unfolding(crate::specs::Sentence::few_members))]
+    fn put_few_members(&mut self, members: usize, least: usize) -> Result<(), AllocError>
+        requires { members < least }
+        ensures { OnOk result (Puts self.old self.new (few_members members least)) }
+    {
+        let more = least - members;
+        let noun = plural(members, "member", "members");
+        let devices = plural(more, "device", "devices");
+        write!(
+            self,
+            "Its acting set has {members} {noun}, and needs at least {least}: it needs {more} more {devices}."
+        )
+    }
+
+    /// Its members are enough, and hold too few shards.
+    #[tactic(auto, unfolding(crate::specs::Sentence::few_shards))]
+    fn put_few_shards(&mut self, lacks: usize) -> Result<(), AllocError>
+        ensures { OnOk result (Puts self.old self.new (few_shards lacks)) }
+    {
+        let shards = plural(lacks, "shard", "shards");
+        write!(
+            self,
+            "The members of its acting set hold too few shards to give objects back: it needs {lacks} more {shards}."
+        )
+    }
+
+    /// Entries of the log by which objects are brought up to date haven't been reported.
+    fn put_need_log(&mut self, best: Option<Member>, gaps: &[Gap]) -> Result<(), AllocError>
+        ensures { OnOk result (Puts self.old self.new (on_log self.old.naming best gaps.now)) }
+    {
+        match best {
+            Some(best) => self.put_log_of(best, gaps),
+            None => self.push_str("The log of its best copy is not whole."),
+        }
+    }
+
+    /// What is wrong with the log of this member.
+    #[tactic(auto, unfolding(crate::specs::Sentence::log_of))]
+    fn put_log_of(&mut self, best: Member, gaps: &[Gap]) -> Result<(), AllocError>
+        ensures { OnOk result (Puts self.old self.new (log_of self.old.naming best gaps.now)) }
+    {
+        let best = self.name(&best)?;
+        if gaps.is_empty() {
+            return write!(
+                self,
+                "The log of {best}, which has the best copy, is not in order."
+            );
+        }
+        let lacked = self.writes(gaps)?;
+        write!(
+            self,
+            "The log of {best}, which has the best copy, lacks the {lacked}."
+        )
+    }
+
+    /// The map doesn't say yet that writes may be taken in this interval.
+    #[tactic(auto, unfolding(crate::specs::Sentence::on_up_thru))]
+    fn put_need_up_thru(&mut self, primary: Option<OsdId>, first: Epoch) -> Result<(), AllocError>
+        ensures { OnOk result (Puts self.old self.new (on_up_thru self.old.naming primary first)) }
+    {
+        let leader = Leader(primary);
+        let first = self.epoch(first);
+        write!(
+            self,
+            "The map has yet to record that {leader}, which leads it, is up in this interval: up_thru {first} or later."
+        )
+    }
+
+    /// It serves, and members that lag behind catch up.
+    #[tactic(auto, unfolding(crate::specs::Sentence::on_serving))]
+    fn put_serve(&mut self, explanation: &Explanation) -> Result<(), AllocError>
+        ensures { OnOk result (Puts self.old self.new (on_serving self.old.naming explanation.now)) }
+    {
+        let laggards = laggards(self.alloc(), explanation.view.missing.as_slice())?;
+        let leader = Leader(explanation.view.acting_primary);
+        write!(self, "It serves, led by {leader}.")?;
+        self.put_unread(explanation.reasons.copies.lacks)?;
+        self.put_behind(laggards.as_slice())
+    }
+
+    /// How many complete copies more it needs for all that was written to be read.
+    #[tactic(auto, unfolding(crate::specs::Sentence::unread_part))]
+    fn put_unread(&mut self, lacks: usize) -> Result<(), AllocError>
+        ensures { OnOk result (Puts self.old self.new (unread_part lacks)) }
+    {
+        if lacks == 0 {
+            return Ok(());
+        }
+        write!(
+            self,
+            " Too few complete copies were heard to read all that was written: it needs {lacks} more."
+        )
+    }
+
+    /// Who lacks something of the best copy.
+    #[tactic(auto, unfolding(crate::specs::Sentence::behind_part))]
+    fn put_behind(&mut self, laggards: &[Laggard]) -> Result<(), AllocError>
+        ensures { OnOk result (Puts self.old self.new (behind_part self.old.naming laggards.now)) }
+    {
+        if laggards.is_empty() {
+            return Ok(());
+        }
+        let names = self.list(laggards)?;
+        write!(self, " {names}.")
+    }
 }
 
 /// The info that knows of the last epoch in which the group served, where one of the infos is of a complete copy.
@@ -209,193 +315,4 @@ fn informed(heard: &[Info]) -> Option<&Info>
         }
     }
     Some(informed)
-}
-
-/// The acting set has too few members, or they hold too few shards.
-#[tactic(auto, unfolding(crate::specs::Sentence::on_short))]
-fn on_short(alloc: Global, explanation: &Explanation, naming: Naming) -> Result<String, AllocError>
-    ensures { IfOk result (λ text. string_bytes text ≡ on_short_of explanation.now) }
-{
-    let mut text = few(alloc, explanation)?;
-    put_fallen(
-        alloc,
-        explanation.reasons.short.fallen.as_slice(),
-        naming,
-        &mut text,
-    )?;
-    Ok(text)
-}
-
-/// What the acting set lacks.
-pub(crate) fn few(alloc: Global, explanation: &Explanation) -> Result<String, AllocError>
-    ensures { IfOk result (λ text. string_bytes text ≡ few_of explanation.now) }
-{
-    let members = explanation.view.acting.osd_count();
-    let least = usize::from(explanation.min_size);
-    if members >= least {
-        few_shards(alloc, explanation.reasons.short.lacks)
-    } else {
-        few_members(alloc, members, least)
-    }
-}
-
-/// It has too few members.
-#[tactic(auto, unfolding(crate::specs::Sentence::few_members))]
-fn few_members(alloc: Global, members: usize, least: usize) -> Result<String, AllocError>
-    requires { members < least }
-    ensures { IfOk result (λ text. string_bytes text ≡ few_members_of members least) }
-{
-    let more = least - members;
-    format!(in alloc;
-        "Its acting set has {members} {}, and needs at least {least}: it needs {more} more {}.",
-        plural(members, "member", "members"),
-        plural(more, "device", "devices"),
-    )
-}
-
-/// Its members are enough, and hold too few shards.
-#[tactic(auto, unfolding(crate::specs::Sentence::few_shards))]
-fn few_shards(alloc: Global, lacks: usize) -> Result<String, AllocError>
-    ensures { IfOk result (λ text. string_bytes text ≡ few_shards_of lacks) }
-{
-    let shards = plural(lacks, "shard", "shards");
-    format!(in alloc;
-        "The members of its acting set hold too few shards to give objects back: it needs {lacks} more {shards}."
-    )
-}
-
-/// Who of those that served the group last is down.
-#[tactic(auto, unfolding(crate::specs::Sentence::fallen_part))]
-fn put_fallen(
-    alloc: Global,
-    osds: &[OsdId],
-    naming: Naming,
-    text: &mut String,
-) -> Result<(), AllocError>
-    ensures { OnOk result (string_bytes text.new ≡ string_bytes text.old ++ fallen_part osds.now) }
-{
-    if osds.is_empty() {
-        return Ok(());
-    }
-    let down = devices(alloc, naming, osds)?;
-    write!(
-        text,
-        " Of those that served it last, {down} {} down.",
-        are(osds.len())
-    )
-}
-
-/// Entries of the log by which objects are brought up to date haven't been reported.
-#[tactic(auto, unfolding(crate::specs::Sentence::on_log))]
-fn on_log(
-    alloc: Global,
-    best: Option<Member>,
-    gaps: &[Gap],
-    naming: Naming,
-) -> Result<String, AllocError>
-    ensures { IfOk result (λ text. string_bytes text ≡ on_log_of best gaps.now naming) }
-{
-    match best {
-        Some(best) => {
-            let best = name(alloc, naming, &best)?;
-            log_of_best(alloc, best.as_str(), gaps, naming)
-        }
-        None => String::from_str(alloc, "The log of its best copy is not whole."),
-    }
-}
-
-/// What is wrong with the log of this member.
-fn log_of_best(
-    alloc: Global,
-    best: &str,
-    gaps: &[Gap],
-    naming: Naming,
-) -> Result<String, AllocError>
-    ensures { IfOk result (λ text. string_bytes text
-        ≡ (if length gaps.now == 0 then unordered_log best.now else lacking_log_of best.now gaps.now)) }
-{
-    if gaps.is_empty() {
-        not_in_order(alloc, best)
-    } else {
-        lacking_log(alloc, best, gaps, naming)
-    }
-}
-
-#[tactic(auto, unfolding(crate::specs::Sentence::unordered_log))]
-fn not_in_order(alloc: Global, best: &str) -> Result<String, AllocError>
-    ensures { IfOk result (λ text. string_bytes text ≡ unordered_log best.now) }
-{
-    format!(in alloc; "The log of {best}, which has the best copy, is not in order.")
-}
-
-#[tactic(auto, unfolding(crate::specs::Sentence::lacking_log))]
-fn lacking_log(
-    alloc: Global,
-    best: &str,
-    gaps: &[Gap],
-    naming: Naming,
-) -> Result<String, AllocError>
-    ensures { IfOk result (λ text. string_bytes text ≡ lacking_log_of best.now gaps.now) }
-{
-    let lacked = writes(alloc, naming, gaps)?;
-    format!(in alloc; "The log of {best}, which has the best copy, lacks the {lacked}.")
-}
-
-/// The map doesn't say yet that writes may be taken in this interval.
-#[tactic(auto, unfolding(crate::specs::Sentence::on_up_thru))]
-fn on_up_thru(alloc: Global, primary: Option<OsdId>, first: u64) -> Result<String, AllocError>
-    ensures { IfOk result (λ text. string_bytes text ≡ on_up_thru_of primary (decimal first)) }
-{
-    let leader = Leader(primary);
-    format!(in alloc;
-        "The map has yet to record that {leader}, which leads it, is up in this interval: up_thru {first} or later."
-    )
-}
-
-/// It serves, and members that lag behind catch up.
-#[tactic(auto, unfolding(crate::specs::Sentence::on_serving))]
-fn on_serving(
-    alloc: Global,
-    explanation: &Explanation,
-    naming: Naming,
-) -> Result<String, AllocError>
-    ensures { IfOk result (λ text. string_bytes text ≡ on_serving_of explanation.now naming) }
-{
-    let laggards = laggards(alloc, explanation.view.missing.as_slice())?;
-    let leader = Leader(explanation.view.acting_primary);
-    let mut text = format!(in alloc; "It serves, led by {leader}.")?;
-    put_unread(explanation.reasons.copies.lacks, &mut text)?;
-    put_behind(alloc, laggards.as_slice(), naming, &mut text)?;
-    Ok(text)
-}
-
-/// How many complete copies more it needs for all that was written to be read.
-#[tactic(auto, unfolding(crate::specs::Sentence::unread_part))]
-fn put_unread(lacks: usize, text: &mut String) -> Result<(), AllocError>
-    ensures { OnOk result (string_bytes text.new ≡ string_bytes text.old ++ unread_part lacks) }
-{
-    if lacks == 0 {
-        return Ok(());
-    }
-    write!(
-        text,
-        " Too few complete copies were heard to read all that was written: it needs {lacks} more."
-    )
-}
-
-/// Who lacks something of the best copy.
-#[tactic(auto, unfolding(crate::specs::Sentence::behind_part))]
-fn put_behind(
-    alloc: Global,
-    laggards: &[Laggard],
-    naming: Naming,
-    text: &mut String,
-) -> Result<(), AllocError>
-    ensures { OnOk result (string_bytes text.new ≡ string_bytes text.old ++ behind_part laggards.now naming) }
-{
-    if laggards.is_empty() {
-        return Ok(());
-    }
-    let names = listed(alloc, naming, laggards, " and ")?;
-    write!(text, " {names}.")
 }

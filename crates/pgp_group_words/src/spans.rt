@@ -1,11 +1,10 @@
 //! Runs of epochs and of writes in words.
 
-ghost use Rattle.std.specs.Prelude.{◌≡◌, ◌+◌, ◌==◌, ◌++◌, flat_map, IfOk, OnOk, string_bytes, codes};
-ghost use Rattle.pgp_group_words.specs.Spans.{interval_epochs, epochs_name, epochs_of as reported_epochs, is_single as is_one_number, numbers_name, runs_name, runs_of_epochs as runs_of_intervals, runs_of_writes as runs_of_gaps, span_name, then_run, writes_name};
+ghost use Rattle.std.specs.Prelude.{◌≡◌, ◌+◌, ◌==◌, map, IfOk, OnOk, string_bytes};
+ghost use Rattle.pgp_group_words.specs.Spans.{epochs_name, epochs_of as reported_epochs, interval_epochs, is_single as is_one_number, numbers_name, run_of_writes as run_of_gap, runs_name, runs_of_epochs as runs_of_intervals, span_name, then_run, writes_name};
 
-use super::names::Naming;
 use super::offset::EpochOffset;
-use super::words::{Word, listed};
+use super::page::{InWords, Page};
 use pgp_reasons::{Blocking, Gap, IntervalNow};
 use std::alloc::{AllocError, Global};
 
@@ -20,14 +19,14 @@ pub(crate) struct Span {
 }
 
 /// A number alone, or the first and the last of a run.
-impl Word for Span {
-    ghost word = { λ _ run. span_name run };
+impl InWords for Span {
+    ghost words = { λ _ run. span_name run };
 
-    fn put(&self, _naming: Naming, text: &mut String) -> Result<(), AllocError> {
+    fn put(&self, page: &mut Page) -> Result<(), AllocError> {
         if self.first == self.last {
-            write!(text, "{}", self.first)
+            write!(page, "{}", self.first)
         } else {
-            write!(text, "{} to {}", self.first, self.last)
+            write!(page, "{} to {}", self.first, self.last)
         }
     }
 }
@@ -86,89 +85,67 @@ fn follows(run: Span, next: Span) -> bool
     next.first > run.last && next.first - run.last == 1
 }
 
-#[tactic(auto, unfolding(crate::specs::Spans::runs_of_writes))]
+/// The writes that a log lacks.
 fn runs_of_writes(alloc: Global, gaps: &[Gap]) -> Result<Vec<Span>, AllocError>
-    ensures { IfOk result (λ runs. runs.items ≡ runs_of_gaps gaps.now) }
+    ensures { IfOk result (λ runs. runs.items ≡ map run_of_gap gaps.now) }
 {
-    let mut runs = Vec::new(alloc);
-    for gap in gaps {
-        runs.push(Span {
-            first: u64::from(gap.first),
-            last: u64::from(gap.last),
-        })?;
-    }
-    Ok(runs)
+    gaps.iter().map(run_of_writes).collect(alloc)
 }
 
-/// The epochs of intervals in a sentence.
-pub(crate) fn epochs(
-    alloc: Global,
-    naming: Naming,
-    intervals: &[Blocking],
-) -> Result<String, AllocError>
-    ensures { IfOk result (λ text. string_bytes text ≡ epochs_name naming.offset intervals.now) }
+fn run_of_writes(gap: &Gap) -> Span
+    ensures { result ≡ run_of_gap gap.now }
 {
-    let spans = runs_of_epochs(alloc, intervals, naming.offset)?;
-    runs(alloc, naming, "epoch", spans.as_slice())
-}
-
-/// The epochs of an interval in a sentence.
-pub(crate) fn epochs_in(
-    alloc: Global,
-    interval: &IntervalNow,
-    naming: Naming,
-) -> Result<String, AllocError>
-    ensures { IfOk result (λ text. string_bytes text ≡ interval_epochs interval.now naming.offset) }
-{
-    runs(
-        alloc,
-        naming,
-        "epoch",
-        &[epochs_of(interval, naming.offset)],
-    )
-}
-
-/// The writes that a log lacks in a sentence.
-pub(crate) fn writes(alloc: Global, naming: Naming, gaps: &[Gap]) -> Result<String, AllocError>
-    ensures { IfOk result (λ text. string_bytes text ≡ writes_name gaps.now) }
-{
-    let spans = runs_of_writes(alloc, gaps)?;
-    runs(alloc, naming, "write", spans.as_slice())
-}
-
-/// Runs of this noun in a sentence: `epoch 7`, `epochs 1 to 3 and 5`.
-#[tactic(auto, unfolding(crate::specs::Spans::runs_name))]
-fn runs(alloc: Global, naming: Naming, noun: &str, runs: &[Span]) -> Result<String, AllocError>
-    ensures { IfOk result (λ text. string_bytes text ≡ runs_name noun.now runs.now) }
-{
-    let numbers = numbers(alloc, naming, runs)?;
-    let plural = if is_single(runs) { " " } else { "s " };
-    format!(in alloc; "{noun}{plural}{numbers}")
-}
-
-/// The runs by their numbers. Where there are many, the first are named.
-fn numbers(alloc: Global, naming: Naming, runs: &[Span]) -> Result<String, AllocError>
-    ensures { IfOk result (λ text. string_bytes text ≡ numbers_name runs.now) }
-{
-    if runs.len() > MOST_NAMED {
-        let named = before_others(alloc, naming, &runs[..MOST_NAMED])?;
-        format!(in alloc; "{named}and later ones")
-    } else {
-        listed(alloc, naming, runs, " and ")
+    Span {
+        first: u64::from(gap.first),
+        last: u64::from(gap.last),
     }
 }
 
-/// The runs, with a comma behind each.
-fn before_others(alloc: Global, naming: Naming, runs: &[Span]) -> Result<String, AllocError>
-    ensures { IfOk result (λ text. string_bytes text
-        ≡ flat_map (λ run. span_name run ++ codes ", ") runs.now) }
-{
-    let mut text = String::new(alloc);
-    for run in runs {
-        run.put(naming, &mut text)?;
-        text.push_str(", ")?;
+impl Page {
+    /// The epochs of intervals in a sentence.
+    pub fn epochs(&self, intervals: &[Blocking]) -> Result<String, AllocError>
+        ensures { IfOk result (λ text. string_bytes text ≡ epochs_name self.now.naming.offset intervals.now) }
+    {
+        let runs = runs_of_epochs(self.alloc(), intervals, self.naming.offset)?;
+        self.runs("epoch", runs.as_slice())
     }
-    Ok(text)
+
+    /// The epochs of an interval in a sentence.
+    pub fn epochs_in(&self, interval: &IntervalNow) -> Result<String, AllocError>
+        ensures { IfOk result (λ text. string_bytes text ≡ interval_epochs self.now.naming.offset interval.now) }
+    {
+        self.runs("epoch", &[epochs_of(interval, self.naming.offset)])
+    }
+
+    /// The writes that a log lacks in a sentence.
+    pub fn writes(&self, gaps: &[Gap]) -> Result<String, AllocError>
+        ensures { IfOk result (λ text. string_bytes text ≡ writes_name gaps.now) }
+    {
+        let runs = runs_of_writes(self.alloc(), gaps)?;
+        self.runs("write", runs.as_slice())
+    }
+
+    /// Runs of this noun in a sentence: `epoch 7`, `epochs 1 to 3 and 5`.
+    #[tactic(auto, unfolding(crate::specs::Spans::runs_name))]
+    fn runs(&self, noun: &str, runs: &[Span]) -> Result<String, AllocError>
+        ensures { IfOk result (λ text. string_bytes text ≡ runs_name noun.now runs.now) }
+    {
+        let numbers = self.numbers(runs)?;
+        let plural = if is_single(runs) { " " } else { "s " };
+        format!(in self.alloc(); "{noun}{plural}{numbers}")
+    }
+
+    /// The runs by their numbers. Where there are many, the first are named.
+    fn numbers(&self, runs: &[Span]) -> Result<String, AllocError>
+        ensures { IfOk result (λ text. string_bytes text ≡ numbers_name runs.now) }
+    {
+        if runs.len() > MOST_NAMED {
+            let named = self.listed(&runs[..MOST_NAMED], ", ")?;
+            format!(in self.alloc(); "{named}, and later ones")
+        } else {
+            self.list(runs)
+        }
+    }
 }
 
 /// Whether the runs are one number alone.

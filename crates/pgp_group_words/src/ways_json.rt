@@ -1,28 +1,26 @@
 //! Ways to end that a group is down, as JSON.
 
-ghost use Rattle.std.specs.Prelude.{◌≡◌, ◌++◌, ◌∷◌, [], Option, None, codes, OnOk, string_bytes};
-ghost use Rattle.serde_json.specs.Data.{string};
-ghost use Rattle.pgp_text.specs.Written.{fields_tokens, tokens_of};
 ghost use Rattle.pgp_text.specs.Json.{option_data};
-ghost use Rattle.pgp_group_words.specs.Json.{any_data, any_of, may_be_more as may_be_others, outcome_data, outcome_fields, then_data, ways_data};
+ghost use Rattle.pgp_group_words.specs.Json.{any_data, any_of, outcome_data, then_data, ways_data};
 
 use super::advice::Advice;
 use super::offset::EpochOffset;
 use super::outcome::{Outcome, Then};
+use super::ways_words::may_be_more;
 use json::Writer;
 use pgp_reasons::{AnyOf, Ways};
 use pgp_text::{Json, write_field};
 use std::alloc::AllocError;
 
+/// The ways that only start devices.
 impl Json<EpochOffset> for Advice {
     ghost value = { ways_data };
 
-    /// The ways that only start devices.
     #[tactic(auto, using(pgp_text::proofs::Tokens::token_steps))]
     fn write(&self, out: &mut Writer, offset: EpochOffset) -> Result<(), AllocError> {
         let ways = &self.explanation.reasons.ways;
         out.begin_object()?;
-        write_any(out, offset, ways)?;
+        write_field(out, offset, "any", ways)?;
         write_field(out, offset, "more", &may_be_more(ways))?;
         write_field(out, offset, "sets", &self.ways)?;
         out.end_object()
@@ -30,26 +28,14 @@ impl Json<EpochOffset> for Advice {
 }
 
 /// Any so many of which devices are enough, if it is so.
-fn write_any(out: &mut Writer, offset: EpochOffset, ways: &Ways) -> Result<(), AllocError>
-    ensures ok { OnOk result (out.new.tokens
-        ≡ out.old.tokens ++ fields_tokens ((codes "any", option_data any_data (any_of ways.now)) ∷ [])) }
-    ensures before { out.new.before ≡ out.old.before }
-{
-    match ways {
-        Ways::Any(any) => write_field(out, offset, "any", any),
-        Ways::Listed(_) => {
-            let none: Option<bool> = None;
-            write_field(out, offset, "any", &none)
-        }
-    }
-}
+impl Json<EpochOffset> for Ways {
+    ghost value = { λ _ ways. option_data any_data (any_of ways) };
 
-fn may_be_more(ways: &Ways) -> bool
-    ensures { result ≡ may_be_others ways.now }
-{
-    match ways {
-        Ways::Any(_) => false,
-        Ways::Listed(listed) => listed.more,
+    fn write(&self, out: &mut Writer, offset: EpochOffset) -> Result<(), AllocError> {
+        match self {
+            Ways::Any(any) => any.write(out, offset),
+            Ways::Listed(_) => out.null(),
+        }
     }
 }
 
@@ -69,25 +55,15 @@ impl Json<EpochOffset> for AnyOf {
 impl Json<EpochOffset> for Outcome {
     ghost value = { outcome_data };
 
-    #[tactic(auto, using(pgp_text::proofs::Tokens::token_steps))]
     fn write(&self, out: &mut Writer, offset: EpochOffset) -> Result<(), AllocError> {
         out.begin_object()?;
-        write_outcome(out, offset, self)?;
+        write_field(out, offset, "intervals", &self.price.intervals)?;
+        write_field(out, offset, "lost", &self.losses)?;
+        write_field(out, offset, "start", &self.starts)?;
+        write_field(out, offset, "then", &self.after)?;
+        write_field(out, offset, "unreadable", &self.price.unreadable)?;
         out.end_object()
     }
-}
-
-#[tactic(auto, using(pgp_text::proofs::Tokens::token_steps))]
-fn write_outcome(out: &mut Writer, offset: EpochOffset, outcome: &Outcome) -> Result<(), AllocError>
-    ensures ok { OnOk result
-        (out.new.tokens ≡ out.old.tokens ++ fields_tokens (outcome_fields offset outcome.now)) }
-    ensures before { out.new.before ≡ out.old.before }
-{
-    write_field(out, offset, "intervals", &outcome.price.intervals)?;
-    write_field(out, offset, "lost", &outcome.losses)?;
-    write_field(out, offset, "start", &outcome.starts)?;
-    write_field(out, offset, "then", &outcome.after)?;
-    write_field(out, offset, "unreadable", &outcome.price.unreadable)
 }
 
 impl Json<EpochOffset> for Then {
@@ -96,16 +72,8 @@ impl Json<EpochOffset> for Then {
     #[tactic(auto, using(pgp_text::proofs::Tokens::token_steps))]
     fn write(&self, out: &mut Writer, offset: EpochOffset) -> Result<(), AllocError> {
         out.begin_object()?;
-        write_field(out, offset, "says", &self.says)?;
+        write_field(out, offset, "says", &self.says.as_str())?;
         write_field(out, offset, "verdict", &self.verdict.name())?;
         out.end_object()
-    }
-}
-
-impl Json<EpochOffset> for String {
-    ghost value = { λ _ text. string (string_bytes text) };
-
-    fn write(&self, out: &mut Writer, _offset: EpochOffset) -> Result<(), AllocError> {
-        out.string(self.as_str())
     }
 }

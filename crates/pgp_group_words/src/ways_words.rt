@@ -1,37 +1,168 @@
 //! What would bring a group back, in words.
 
-ghost use Rattle.std.specs.Prelude.{◌≡◌, ◌++◌, [], codes, flat_map, IfOk, OnOk, string_bytes};
-ghost use Rattle.pgp_group_words.specs.Text.{each_after_first};
-ghost use Rattle.pgp_group_words.specs.WaysWords.{any_lines, and_part, away_part, deed_line, lost_part, more_line, outcome_lines, price_line, price_lines, resort_heading, resort_lines, shape_line, start_part, then_line, unreadable_line, ways_heading, ways_lines, without_line};
+ghost use Rattle.std.specs.Prelude.{◌≡◌, OnOk};
+ghost use Rattle.pgp_group_words.specs.Text.{Puts};
+ghost use Rattle.pgp_group_words.specs.WaysWords.{and_part, any_line, away_part, deed_line, may_be_more as may_be_others, more_line, outcome_lines, outcomes_lines, price_line, resort_heading, resort_lines, shape_line, then_line, unreadable_line, ways_heading, ways_lines, without_part};
 
 use super::advice::Advice;
-use super::names::{Naming, are};
+use super::names::are;
 use super::outcome::{Outcome, Then};
-use super::spans::epochs_in;
-use super::words::devices;
+use super::page::{InWords, Page};
 use pgp_ids::{OsdId, Seq, Verdict};
-use pgp_reasons::{IntervalNow, Price, Ways, Writes};
-use std::alloc::{AllocError, Global};
+use pgp_reasons::{IntervalNow, Ways, Writes};
+use std::alloc::AllocError;
 
-/// Puts the ways that only start devices, where there are some.
-#[tactic(auto, unfolding(crate::specs::WaysWords::ways_lines))]
-pub(crate) fn put_ways(
-    alloc: Global,
-    advice: &Advice,
-    naming: Naming,
-    text: &mut String,
-) -> Result<(), AllocError>
-    ensures { OnOk result (string_bytes text.new
-        ≡ string_bytes text.old ++ ways_lines advice.now naming.offset) }
-{
-    if advice.ways.is_empty() {
-        return Ok(());
+impl Page {
+    /// Puts the ways that only start devices, where there are some.
+    #[tactic(auto, unfolding(crate::specs::WaysWords::ways_lines))]
+    pub fn put_ways(&mut self, advice: &Advice) -> Result<(), AllocError>
+        ensures { OnOk result (Puts self.old self.new (ways_lines self.old.naming advice.now)) }
+    {
+        if advice.ways.is_empty() {
+            return Ok(());
+        }
+        let ways = &advice.explanation.reasons.ways;
+        self.push_str(heading(advice.explanation.view.verdict))?;
+        self.put_shape(ways)?;
+        self.put_outcomes(advice.ways.as_slice())?;
+        self.put_more(ways)
     }
-    let ways = &advice.explanation.reasons.ways;
-    text.push_str(heading(advice.explanation.view.verdict))?;
-    put_shape(alloc, ways, naming, text)?;
-    put_outcomes(alloc, advice.ways.as_slice(), naming, text)?;
-    put_more(ways, text)
+
+    /// Puts the ways that declare devices lost, where these are wanted and there are some.
+    #[tactic(auto, unfolding(crate::specs::WaysWords::resort_lines))]
+    pub fn put_resorts(&mut self, outcomes: &Option<Seq<Outcome>>) -> Result<(), AllocError>
+        ensures { OnOk result (Puts self.old self.new (resort_lines self.old.naming outcomes.now)) }
+    {
+        match outcomes {
+            Some(outcomes) if !outcomes.is_empty() => {
+                self.push_str(last_resort())?;
+                self.put_outcomes(outcomes.as_slice())
+            }
+            _ => Ok(()),
+        }
+    }
+
+    /// That any so many of some devices are enough, where more than one is needed.
+    fn put_shape(&mut self, ways: &Ways) -> Result<(), AllocError>
+        ensures { OnOk result (Puts self.old self.new (shape_line ways.now)) }
+    {
+        match ways {
+            Ways::Any(any) => self.put_any(any.least, any.osds.as_slice()),
+            Ways::Listed(_) => Ok(()),
+        }
+    }
+
+    #[tactic(auto, unfolding(crate::specs::WaysWords::any_line))]
+    fn put_any(&mut self, least: usize, osds: &[OsdId]) -> Result<(), AllocError>
+        ensures { OnOk result (Puts self.old self.new (any_line least osds.now)) }
+    {
+        if least == 1 {
+            return Ok(());
+        }
+        let names = self.list(osds)?;
+        writeln!(self, "  any {least} of {names} will do, such as")
+    }
+
+    /// That there may be ways that aren't listed.
+    fn put_more(&mut self, ways: &Ways) -> Result<(), AllocError>
+        ensures { OnOk result (Puts self.old self.new (more_line ways.now)) }
+    {
+        if may_be_more(ways) {
+            return self.push_str("  (there may be others)\n");
+        }
+        Ok(())
+    }
+
+    /// Each way with what follows, the later ones with `or` before them.
+    #[tactic(auto, unfolding(crate::specs::WaysWords::outcomes_lines))]
+    fn put_outcomes(&mut self, outcomes: &[Outcome]) -> Result<(), AllocError>
+        ensures { OnOk result (Puts self.old self.new (outcomes_lines self.old.naming outcomes.now)) }
+    {
+        let Some((first, others)) = outcomes.split_first() else {
+            return Ok(());
+        };
+        self.push_str("  ")?;
+        first.put(self)?;
+        self.put_each("  or ", others)
+    }
+
+    /// What is done.
+    #[tactic(auto, unfolding(crate::specs::WaysWords::deed_line))]
+    fn put_deed(&mut self, outcome: &Outcome) -> Result<(), AllocError>
+        ensures { OnOk result (Puts self.old self.new (deed_line outcome.now)) }
+    {
+        self.put_osds("start ", outcome.starts.as_slice(), "")?;
+        self.push_str(both(&outcome.starts, &outcome.losses))?;
+        self.put_osds("declare ", outcome.losses.as_slice(), " lost")?;
+        self.push_str("\n")
+    }
+
+    /// What the group is then.
+    fn put_then(&mut self, after: &Option<Then>) -> Result<(), AllocError>
+        ensures { OnOk result (Puts self.old self.new (then_line after.now)) }
+    {
+        match after {
+            Some(after) => {
+                let verdict = after.verdict.name();
+                writeln!(self, "    then {verdict}: {}", after.says.as_str())
+            }
+            None => self.push_str("    what it is then isn't known: the log takes no more\n"),
+        }
+    }
+
+    /// That it goes on without the writes of an interval.
+    #[tactic(auto, unfolding(crate::specs::WaysWords::without_part))]
+    fn put_without(&mut self, interval: &IntervalNow) -> Result<(), AllocError>
+        ensures { OnOk result (Puts self.old self.new (without_part self.old.naming interval.now)) }
+    {
+        let epochs = self.epochs_in(interval)?;
+        write!(
+            self,
+            "    it goes on without what was written in {epochs}, at least: "
+        )
+    }
+
+    /// Which devices that are down may have it.
+    #[tactic(auto, unfolding(crate::specs::WaysWords::away_part))]
+    fn put_away(&mut self, osds: &Seq<OsdId>) -> Result<(), AllocError>
+        ensures { OnOk result (Puts self.old self.new (away_part osds.now)) }
+    {
+        let names = self.list(osds.as_slice())?;
+        let are = are(osds.len());
+        writeln!(self, "{names}, which {are} down, may have it")
+    }
+}
+
+/// A way: what is done, what the group is then, and what that costs.
+impl InWords for Outcome {
+    ghost words = { outcome_lines };
+
+    #[tactic(auto, unfolding(crate::specs::WaysWords::outcome_lines))]
+    fn put(&self, page: &mut Page) -> Result<(), AllocError> {
+        page.put_deed(self)?;
+        page.put_then(&self.after)?;
+        page.put_each("", self.price.intervals.as_slice())?;
+        page.push_str(unreadable(self.price.unreadable))
+    }
+}
+
+/// What a way costs by an interval.
+impl InWords for IntervalNow {
+    ghost words = { price_line };
+
+    fn put(&self, page: &mut Page) -> Result<(), AllocError> {
+        match self.writes {
+            Writes::Readable => Ok(()),
+            Writes::Away => {
+                page.put_without(self)?;
+                page.put_away(&self.down)
+            }
+            Writes::Gone => {
+                page.put_without(self)?;
+                page.push_str("too few of the devices that took it are left\n")
+            }
+        }
+    }
 }
 
 fn heading(verdict: Verdict) -> &'static str
@@ -43,24 +174,6 @@ fn heading(verdict: Verdict) -> &'static str
     }
 }
 
-/// Puts the ways that declare devices lost, where there are some.
-#[tactic(auto, unfolding(crate::specs::WaysWords::resort_lines))]
-pub(crate) fn put_last_resort(
-    alloc: Global,
-    outcomes: &[Outcome],
-    naming: Naming,
-    text: &mut String,
-) -> Result<(), AllocError>
-    ensures { OnOk result (string_bytes text.new
-        ≡ string_bytes text.old ++ resort_lines outcomes.now naming.offset) }
-{
-    if outcomes.is_empty() {
-        return Ok(());
-    }
-    text.push_str(last_resort())?;
-    put_outcomes(alloc, outcomes, naming, text)
-}
-
 /// What stands above the ways that declare devices lost.
 fn last_resort() -> &'static str
     ensures { result.now ≡ resort_heading }
@@ -68,146 +181,17 @@ fn last_resort() -> &'static str
     "\nLast resort, with no way back. First image each disk, or export what it has of the group (ceph-objectstore-tool\n--op export). A device that is declared lost is lost to all of its groups.\n"
 }
 
-/// That any so many of some devices are enough, where more than one is needed.
-fn put_shape(
-    alloc: Global,
-    ways: &Ways,
-    naming: Naming,
-    text: &mut String,
-) -> Result<(), AllocError>
-    ensures { OnOk result (string_bytes text.new ≡ string_bytes text.old ++ shape_line ways.now) }
+/// Whether there may be ways that aren't listed.
+pub(crate) fn may_be_more(ways: &Ways) -> bool
+    ensures { result ≡ may_be_others ways.now }
 {
     match ways {
-        Ways::Any(any) => put_any(alloc, any.least, any.osds.as_slice(), naming, text),
-        Ways::Listed(_) => Ok(()),
+        Ways::Any(_) => false,
+        Ways::Listed(listed) => listed.more,
     }
 }
 
-#[tactic(auto, unfolding(crate::specs::WaysWords::any_line))]
-fn put_any(
-    alloc: Global,
-    least: usize,
-    osds: &[OsdId],
-    naming: Naming,
-    text: &mut String,
-) -> Result<(), AllocError>
-    ensures { OnOk result (string_bytes text.new ≡ string_bytes text.old ++ any_lines least osds.now) }
-{
-    if least == 1 {
-        return Ok(());
-    }
-    let names = devices(alloc, naming, osds)?;
-    writeln!(text, "  any {least} of {names} will do, such as")
-}
-
-/// That there may be ways that aren't listed.
-fn put_more(ways: &Ways, text: &mut String) -> Result<(), AllocError>
-    ensures { OnOk result (string_bytes text.new ≡ string_bytes text.old ++ more_line ways.now) }
-{
-    match ways {
-        Ways::Any(_) => Ok(()),
-        Ways::Listed(listed) => {
-            if listed.more {
-                text.push_str("  (there may be others)\n")
-            } else {
-                Ok(())
-            }
-        }
-    }
-}
-
-/// Each way with what follows, the later ones with `or` before them.
-fn put_outcomes(
-    alloc: Global,
-    outcomes: &[Outcome],
-    naming: Naming,
-    text: &mut String,
-) -> Result<(), AllocError>
-    ensures { OnOk result (string_bytes text.new
-        ≡ string_bytes text.old ++ each_after_first (outcome_lines naming.offset) [] (codes "or ") outcomes.now) }
-{
-    let Some((first, others)) = outcomes.split_first() else {
-        return Ok(());
-    };
-    put_outcome(alloc, first, naming, "", text)?;
-    put_others(alloc, others, naming, text)
-}
-
-fn put_others(
-    alloc: Global,
-    outcomes: &[Outcome],
-    naming: Naming,
-    text: &mut String,
-) -> Result<(), AllocError>
-    ensures { OnOk result (string_bytes text.new
-        ≡ string_bytes text.old ++ flat_map (outcome_lines naming.offset (codes "or ")) outcomes.now) }
-{
-    for outcome in outcomes {
-        put_outcome(alloc, outcome, naming, "or ", text)?;
-    }
-    Ok(())
-}
-
-/// A way: what is done, what the group is then, and what that costs.
-#[tactic(auto, unfolding(crate::specs::WaysWords::outcome_lines))]
-fn put_outcome(
-    alloc: Global,
-    outcome: &Outcome,
-    naming: Naming,
-    before: &str,
-    text: &mut String,
-) -> Result<(), AllocError>
-    ensures { OnOk result (string_bytes text.new
-        ≡ string_bytes text.old ++ outcome_lines naming.offset before.now outcome.now) }
-{
-    put_deed(alloc, outcome, naming, before, text)?;
-    put_then(&outcome.after, text)?;
-    put_price(alloc, &outcome.price, naming, text)
-}
-
-/// What is done.
-#[tactic(auto, unfolding(crate::specs::WaysWords::deed_line))]
-fn put_deed(
-    alloc: Global,
-    outcome: &Outcome,
-    naming: Naming,
-    before: &str,
-    text: &mut String,
-) -> Result<(), AllocError>
-    ensures { OnOk result (string_bytes text.new
-        ≡ string_bytes text.old ++ deed_line before.now outcome.now) }
-{
-    let starts = started(alloc, outcome.starts.as_slice(), naming)?;
-    let losses = declared(alloc, outcome.losses.as_slice(), naming)?;
-    let both = both(&outcome.starts, &outcome.losses);
-    writeln!(text, "  {before}{starts}{both}{losses}")
-}
-
-/// Which devices boot.
-#[tactic(auto, unfolding(crate::specs::WaysWords::start_part))]
-fn started(alloc: Global, osds: &[OsdId], naming: Naming) -> Result<String, AllocError>
-    ensures { IfOk result (λ text. string_bytes text ≡ start_part osds.now) }
-{
-    if osds.is_empty() {
-        return Ok(String::new(alloc));
-    }
-    let names = devices(alloc, naming, osds)?;
-    format!(in alloc; "start {names}")
-}
-
-/// Which devices are declared lost.
-#[tactic(auto, unfolding(crate::specs::WaysWords::lost_part))]
-fn declared(alloc: Global, osds: &[OsdId], naming: Naming) -> Result<String, AllocError>
-    ensures { IfOk result (λ text. string_bytes text ≡ lost_part osds.now) }
-{
-    if osds.is_empty() {
-        return Ok(String::new(alloc));
-    }
-    let names = devices(alloc, naming, osds)?;
-    format!(in alloc; "declare {names} lost")
-}
-
-/// What stands between the two.
+/// What stands between the devices that boot and those that are declared lost.
 fn both(starts: &Seq<OsdId>, losses: &Seq<OsdId>) -> &'static str
     ensures { result.now ≡ and_part starts.now losses.now }
 {
@@ -218,36 +202,7 @@ fn both(starts: &Seq<OsdId>, losses: &Seq<OsdId>) -> &'static str
     }
 }
 
-/// What the group is then.
-fn put_then(after: &Option<Then>, text: &mut String) -> Result<(), AllocError>
-    ensures { OnOk result (string_bytes text.new ≡ string_bytes text.old ++ then_line after.now) }
-{
-    match after {
-        Some(after) => writeln!(
-            text,
-            "    then {}: {}",
-            after.verdict.name(),
-            after.says.as_str(),
-        ),
-        None => text.push_str("    what it is then isn't known: the log takes no more\n"),
-    }
-}
-
-/// What it costs.
-#[tactic(auto, unfolding(crate::specs::WaysWords::price_lines))]
-fn put_price(
-    alloc: Global,
-    price: &Price,
-    naming: Naming,
-    text: &mut String,
-) -> Result<(), AllocError>
-    ensures { OnOk result (string_bytes text.new
-        ≡ string_bytes text.old ++ price_lines naming.offset price.now) }
-{
-    put_intervals(alloc, price.intervals.as_slice(), naming, text)?;
-    text.push_str(unreadable(price.unreadable))
-}
-
+/// What is said where no object can be read then.
 fn unreadable(is: bool) -> &'static str
     ensures { result.now ≡ unreadable_line is }
 {
@@ -256,74 +211,4 @@ fn unreadable(is: bool) -> &'static str
     } else {
         ""
     }
-}
-
-fn put_intervals(
-    alloc: Global,
-    intervals: &[IntervalNow],
-    naming: Naming,
-    text: &mut String,
-) -> Result<(), AllocError>
-    ensures { OnOk result (string_bytes text.new
-        ≡ string_bytes text.old ++ flat_map (price_line naming.offset) intervals.now) }
-{
-    for interval in intervals {
-        put_interval(alloc, interval, naming, text)?;
-    }
-    Ok(())
-}
-
-/// What it costs by an interval.
-fn put_interval(
-    alloc: Global,
-    interval: &IntervalNow,
-    naming: Naming,
-    text: &mut String,
-) -> Result<(), AllocError>
-    ensures { OnOk result (string_bytes text.new
-        ≡ string_bytes text.old ++ price_line naming.offset interval.now) }
-{
-    match interval.writes {
-        Writes::Readable => Ok(()),
-        Writes::Away => {
-            let why = away(alloc, interval.down.as_slice(), naming)?;
-            put_without(alloc, interval, naming, why.as_str(), text)
-        }
-        Writes::Gone => put_without(
-            alloc,
-            interval,
-            naming,
-            "too few of the devices that took it are left",
-            text,
-        ),
-    }
-}
-
-/// Which devices that are down may have the writes of an interval.
-#[tactic(auto, unfolding(crate::specs::WaysWords::away_part))]
-fn away(alloc: Global, osds: &[OsdId], naming: Naming) -> Result<String, AllocError>
-    ensures { IfOk result (λ text. string_bytes text ≡ away_part osds.now) }
-{
-    let names = devices(alloc, naming, osds)?;
-    let are = are(osds.len());
-    format!(in alloc; "{names}, which {are} down, may have it")
-}
-
-/// That it goes on without the writes of an interval.
-#[tactic(auto, unfolding(crate::specs::WaysWords::without_line))]
-fn put_without(
-    alloc: Global,
-    interval: &IntervalNow,
-    naming: Naming,
-    why: &str,
-    text: &mut String,
-) -> Result<(), AllocError>
-    ensures { OnOk result (string_bytes text.new
-        ≡ string_bytes text.old ++ without_line naming.offset interval.now why.now) }
-{
-    let epochs = epochs_in(alloc, interval, naming)?;
-    writeln!(
-        text,
-        "    it goes on without what was written in {epochs}, at least: {why}"
-    )
 }

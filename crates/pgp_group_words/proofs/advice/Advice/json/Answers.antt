@@ -1,0 +1,15 @@
+use Rattle.std.proofs.Common.{◌++◌, ap, ◌∙◌}
+use Rattle.json.specs.Print.{print}
+use Rattle.serde_json.proofs.Texts.{print-outline}
+use Rattle.pgp_text.proofs.Tokens.{fields_then, object_written}
+use Rattle.pgp_text.specs.Written.{tokens_of}
+use Rattle.pgp_group_words.specs.Json.{advice_data, advice_json}
+use Rattle.pgp_group_words.proofs.advice.Advice.json.Goals as goal
+
+pub returns : goal.returns
+unfolding advice_json
+returns c =
+    let d = advice_data c.args.offset c.args.self.now in
+    let fields = fields_then _ _ _ _ _ c.in_ok-write_place.ensures.ok (fields_then _ _ _ _ _ c.in_ok-write_resorts.ensures.ok c.in_ok-write_verdict.ensures.ok) in
+    let whole = object_written _ _ _ _ _ c.in_ok-begin_object.ensures.ok fields c.in_ok-end_object.ensures.ok ∙ ap (λ ts. ts ++ tokens_of d) c.new-out.ensures.tokens in
+    rw (ap print whole ∙ print-outline d) at c.into_line.ensures

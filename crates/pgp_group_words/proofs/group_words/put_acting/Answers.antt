@@ -1,6 +1,0 @@
-use Rattle.pgp_group_words.specs.Words.{acting_line}
-use Rattle.pgp_group_words.proofs.group_words.put_acting.Goals as goal
-
-pub returns : goal.returns
-unfolding acting_line
-returns c = rw (c.in_ok-acting.ensures, c.cluster_epoch.ensures) at c.writeln.ensures.bytes
