@@ -33,15 +33,10 @@ pub fn places(numbers: &[u16]) -> Osds {
     places
 }
 
-/// Pool 1, which is the pool of most tests.
-pub fn pool() -> PoolId {
-    PoolId::new(1).unwrap()
-}
-
 /// Group 0 of pool 1.
 pub fn group() -> PgId {
     PgId {
-        pool: pool(),
+        pool: PoolId::new(1).unwrap(),
         pg: 0,
     }
 }

@@ -12,11 +12,11 @@ mod lines;
 mod maps;
 mod words;
 
-pub use ids::{NO_OSD, group, member, osd, places, pool, version};
+pub use ids::{NO_OSD, group, member, osd, places, version};
 pub use infos::{
     EMPTY_0, EMPTY_1, EMPTY_2, KNOWN_UP, LOG_0, TO_SERVE, WRITTEN_0, WRITTEN_1, empty_copy,
 };
 pub use intervals::{lying_on, two_epochs};
 pub use lines::{entry, entry_surely, incremental, text_of};
-pub use maps::{COPIES, MANY_GROUPS, ONE_DEVICE, SHARDS, TWO_GROUPS, WITHOUT_TEMP};
+pub use maps::{COPIES, MANY_GROUPS, ONE_DEVICE};
 pub use words::peer_in_words;

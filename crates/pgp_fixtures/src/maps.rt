@@ -5,10 +5,6 @@
 pub const COPIES: &str =
     r#"{"op":"inc","epoch":1,"up":[0,1,2],"weight":[[1,0],[2,0]],"crush":[{"id":-1,"type":1,"alg":"uniform","items":[0,1,2]}],"pools":[{"id":1,"pg_num":1,"kind":"replicated","size":3,"min_size":2,"leaf":0}],"temp":[[1,0,[0,1,2]]]}"#;
 
-/// Pool 1 of two data shards and one more over six devices without weight; pg_temp puts its one group on the first three.
-pub const SHARDS: &str =
-    r#"{"op":"inc","epoch":1,"up":[0,1,2,3,4,5],"weight":[[0,0],[1,0],[2,0],[3,0],[4,0],[5,0]],"crush":[{"id":-1,"type":1,"alg":"uniform","items":[0,1,2,3,4,5]}],"pools":[{"id":1,"pg_num":1,"kind":"erasure","k":2,"size":3,"min_size":2,"leaf":0}],"temp":[[1,0,[0,1,2]]]}"#;
-
 /// Pool 1 of one copy and one group, and device 0. There is no tree, so the group lies nowhere.
 pub const ONE_DEVICE: &str =
     r#"{"op":"inc","epoch":1,"up":[0],"pools":[{"id":1,"pg_num":1,"kind":"replicated","size":1,"min_size":1,"leaf":0}]}"#;
@@ -16,11 +12,3 @@ pub const ONE_DEVICE: &str =
 /// Pool 1 of 256 groups of three copies, over sixteen devices in one bucket.
 pub const MANY_GROUPS: &str =
     r#"{"op":"inc","epoch":1,"up":[0,1,2,3,4,5,6,7,8,9,10,11,12,13,14,15],"crush":[{"id":-1,"type":1,"alg":"uniform","items":[0,1,2,3,4,5,6,7,8,9,10,11,12,13,14,15]}],"pools":[{"id":1,"pg_num":256,"kind":"replicated","size":3,"min_size":2,"leaf":0}]}"#;
-
-/// Pool 1 of two groups of three copies.
-pub const TWO_GROUPS: &str =
-    r#"{"op":"inc","epoch":1,"up":[0,1,2],"weight":[[1,0],[2,0]],"crush":[{"id":-1,"type":1,"alg":"uniform","items":[0,1,2]}],"pools":[{"id":1,"pg_num":2,"kind":"replicated","size":3,"min_size":2,"leaf":0}]}"#;
-
-/// [`COPIES`] without pg_temp.
-pub const WITHOUT_TEMP: &str =
-    r#"{"op":"inc","epoch":1,"up":[0,1,2],"weight":[[1,0],[2,0]],"crush":[{"id":-1,"type":1,"alg":"uniform","items":[0,1,2]}],"pools":[{"id":1,"pg_num":1,"kind":"replicated","size":3,"min_size":2,"leaf":0}]}"#;

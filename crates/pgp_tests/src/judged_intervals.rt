@@ -2,13 +2,13 @@
 //! intervals may have gone read-write after all.
 
 use super::counting::{CountingCode, Index, QuestionCounts};
-use super::prior_sets::{DOWN, GONE, LOST, UP, prior_text};
-use super::statuses::{Table, Turn};
+use super::prior_sets::{Table, prior_text};
 use pgp_code::Erasure;
 use pgp_fixtures::{NO_OSD, lying_on, osd, two_epochs};
 use pgp_ids::Epoch;
 use pgp_prior::PriorIndex;
 use pgp_sets::Status;
+use pgp_sets::Status::{Down, Gone, Up};
 use std::alloc::{AllocError, Global};
 use std::test::Fail;
 
@@ -16,8 +16,8 @@ use std::test::Fail;
 enum Step {
     /// Nothing.
     Begun,
-    /// Device 1 changes in this way to this status for all intervals.
-    Turned(Turn, Status),
+    /// Device 1 is up, down or destroyed from now on.
+    Turned(Status),
     /// The interval at this place may have gone read-write after all.
     Raised(usize),
 }
@@ -50,14 +50,14 @@ const FOUR: &[&[u16]] = &[
     ],
 ];
 
-static SCENES: [Scene; 3] = [
+static SCENES: [Scene; 2] = [
     Scene {
         name: "device 1 comes up, goes down and is destroyed, while 3, 4 and 5 are down",
         k: 3,
         current: [0, 2, 6],
         acting: FOUR,
         rw: true,
-        statuses: [UP, DOWN, UP, DOWN, DOWN, DOWN],
+        statuses: [Up, Down, Up, Down, Down, Down],
         steps: &[
             SceneStep(
                 Step::Begun,
@@ -66,36 +66,20 @@ static SCENES: [Scene; 3] = [
             ),
             // The first and the second interval block the group, and the fourth has enough.
             SceneStep(
-                Step::Turned(Turn::Better, UP),
+                Step::Turned(Up),
                 [1, 1, 0, 0, 0],
                 "asks 0:0 0:15 1:1 1:5 1:13 2:1 2:2 2:9 2:14 6:0 6:2 6:4 6:8 6:12, down 4 5",
             ),
             // The second interval still blocks it.
             SceneStep(
-                Step::Turned(Turn::Worse, DOWN),
+                Step::Turned(Down),
                 [1, 0, 0, 1, 0],
                 "asks 0:0 0:15 2:1 2:2 2:9 2:14 6:0 6:2 6:4 6:8 6:12, down 1 3 4 5",
             ),
             SceneStep(
-                Step::Turned(Turn::Gone, GONE),
+                Step::Turned(Gone),
                 [1, 1, 0, 1, 0],
                 "asks 0:0 0:15 2:1 2:2 2:9 2:14 6:0 6:2 6:4 6:8 6:12, down 3 4 5",
-            ),
-        ],
-    },
-    Scene {
-        name: "it waits for no shard where one counts as lost, and for both once that one is down",
-        k: 2,
-        current: [0, 3, 4],
-        acting: &[&[0, 1, 2]],
-        rw: true,
-        statuses: [UP, LOST, DOWN, UP, UP, UP],
-        steps: &[
-            SceneStep(Step::Begun, [1, 0, 0, 0, 0], "asks 0:0 3:1 4:2, not down"),
-            SceneStep(
-                Step::Turned(Turn::Worse, DOWN),
-                [1, 0, 0, 0, 0],
-                "asks 0:0 3:1 4:2, down 1 2",
             ),
         ],
     },
@@ -105,7 +89,7 @@ static SCENES: [Scene; 3] = [
         current: [0, 3, 4],
         acting: &[&[0, 1, 2]],
         rw: false,
-        statuses: [UP, DOWN, DOWN, UP, UP, UP],
+        statuses: [Up, Down, Down, Up, Up, Up],
         steps: &[
             SceneStep(Step::Begun, [0; 5], "asks 0:0 3:1 4:2, not down"),
             // There is no such interval.
@@ -150,9 +134,13 @@ fn index_of<'a>(
 fn take(index: &mut Index<'_>, table: &mut Table, step: &Step) {
     match step {
         Step::Begun => {}
-        Step::Turned(turn, status) => {
+        Step::Turned(status) => {
             table.set(1, *status);
-            turn.tell(index, osd(1), table);
+            match status {
+                Up => index.device_better(osd(1), table),
+                Down => index.device_worse(osd(1), table),
+                _ => index.device_gone(osd(1), table),
+            }
         }
         Step::Raised(place) => index.raise(*place),
     }
@@ -175,7 +163,9 @@ fn goes_so(
 /// The place of the first step after which the code was asked otherwise, or the prior set is another.
 fn first_wrong(alloc: Global, scene: &Scene) -> Result<Option<usize>, AllocError> {
     let asked = QuestionCounts::new();
-    let mut table = Table::of(alloc, &scene.statuses)?;
+    let mut table = Table {
+        statuses: scene.statuses,
+    };
     let mut index = index_of(alloc, scene, &asked, &table)?;
     for (place, step) in scene.steps.iter().enumerate() {
         if !goes_so(alloc, &mut index, &asked, &mut table, step)? {

@@ -23,14 +23,8 @@ mod marks;
 #[cfg(test)]
 mod missing;
 #[cfg(test)]
-mod peering;
-#[cfg(test)]
 mod prior_sets;
 #[cfg(test)]
-mod statuses;
-#[cfg(test)]
 mod straw2;
-#[cfg(test)]
-mod transcripts;
 #[cfg(test)]
 mod trees;

@@ -3,7 +3,7 @@
 ghost use Rattle.std.specs.Prelude.{OnOk};
 ghost use Rattle.pgp_log.specs.Judge.{IsJudgeOf};
 
-use pgp_fixtures::{TO_SERVE, TWO_GROUPS, entry};
+use pgp_fixtures::{TO_SERVE, entry};
 use pgp_log::Judge;
 use pgp_shard::ShardState;
 use std::alloc::Global;
@@ -30,13 +30,6 @@ static TOUCHED: [Step; 6] = [
     Step(&[TOUCHING], 0, 1, "a report of the group"),
     Step(&[], 1, 0, "the report was heard"),
     Step(&[CHANGING], 0, 1, "a member of the group went down"),
-];
-
-/// A shard that never worked out a group works out each once.
-static ONE_A_CALL: [Step; 3] = [
-    Step(&[TWO_GROUPS], 1, 1, "the first of two was worked out"),
-    Step(&[], 1, 0, "the second was worked out"),
-    Step(&[], 1, 0, "none was left"),
 ];
 
 /// Of the 200 groups of pool 1 on sixteen devices, each line touches these.
@@ -109,6 +102,5 @@ fn goes_so<R: Abort + AllocGlobal>(rt: &R, steps: &[Step]) -> Result<(), Fail> {
 #[test]
 fn shards_work_out_what_was_touched_or_never_worked_out(rt: HostRuntime) -> Result<(), Fail> {
     goes_so(&rt, &TOUCHED)?;
-    goes_so(&rt, &ONE_A_CALL)?;
     goes_so(&rt, &MANY)
 }

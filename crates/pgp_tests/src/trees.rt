@@ -1,8 +1,7 @@
 //! Placements that Ceph's own tool makes too.
 
-use super::peering::grow;
 use pgp_crush::{Rule, place};
-use pgp_fixtures::{NO_OSD, places};
+use pgp_fixtures::{NO_OSD, incremental, places};
 use pgp_map::OsdMap;
 use std::test::Fail;
 
@@ -43,7 +42,9 @@ fn weights() -> [u32; 4096] {
 #[test]
 fn placements_are_those_of_ceph(rt: HostRuntime) -> Result<(), Fail> {
     let mut map = OsdMap::empty(rt.alloc());
-    grow(rt.alloc(), &mut map, FOUR_LEVELS)?;
+    let inc = incremental(rt.alloc(), FOUR_LEVELS).ok_or("no incremental")?;
+    map.check(&inc)?;
+    map.apply(&inc)?;
     let weights = weights();
     for (indep, leaf, x, devices) in &PLACEMENTS {
         let expected = places(devices);
