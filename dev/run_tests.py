@@ -19,14 +19,17 @@ In this order, each part with its count and its seconds:
                                     (fuzz/explain.py)
   compactions                       a script that `compact` wrote has the answers of the whole one, for half a minute at most
                                     (fuzz/compact.py)
+  joins                             the same of a script whose incrementals were joined, for twenty seconds (fuzz/join.py)
   followers of one log              three followers over three nodes of etcd answer as the program does on the lines of the log, while
                                     one of each is killed (follow/checks/many.py)
+  followers that join               the same, with --format 3
+  a log without end                 two followers take more maps than a log does (follow/checks/endless.py)
   a follower that is cut off        what it answers without the others, by network namespaces (follow/checks/partition.py)
   a follower by TLS                 who is let in, with certificates and users of etcd (follow/checks/secured.py)
   a Ceph cluster                    nine devices go through an outage, as fetch and record keep it, and come back as plan says
                                     (check_against_ceph.py --operator --short)
-  allocations refused               each allocation refused in turn: of a short run, with and without workers, of an explanation and
-                                    of a compaction (refuse_allocations.py), of tests of the feed, the engine and runs
+  allocations refused               each allocation refused in turn: of a short run, with and without workers, of an explanation, of
+                                    a compaction and of a join (refuse_allocations.py), of tests of the feed, the engine and runs
                                     (refuse_in_tests.py)
   library for C, built              the static library, over what the gate proved (build_c_library.sh)
   library for C                     its scripts, calls, examples and names, and programs in five languages that are killed and
@@ -65,11 +68,13 @@ FUZZED_LINES = 300_000  # fewer where a minute passes before
 EXPLAINED_LOGS = 300  # fewer where half a minute passes before
 COMPACTED_LINES = 100_000  # fewer where half a minute passes before
 COMPACTED_KINDS = ("story", "crowd", "noise", "long", "wide")  # without full logs, one of which takes a minute
+JOINED_KINDS = ("healing", "brief", "outage", "story")
 REFUSED_RUNS = (  # in which each allocation is refused: a script, and what is done with it
     ("a run", ("examples/first.jsonl", "run")),
     ("a run with workers", ("examples/first.jsonl", "run", "--shards", "2", "--workers", "2")),
     ("an explanation", ("examples/explain_down.jsonl", "explain", "1.0")),
     ("a compaction", ("examples/compact.jsonl", "compact")),
+    ("a join", ("examples/flaps.jsonl", "compact", "--join")),
 )
 REFUSED_TESTS = (  # in which each allocation is refused: a crate of tests, and its tests that make a call once more then
     ("pgp_thread_tests", ("engine::growths::each_call_can_be_made_again", "feed::memory::one_allocation_may_be_refused")),
@@ -150,7 +155,7 @@ def states_of_groups(said: str) -> Optional[Counts]:
 
 
 def compactions(said: str) -> Optional[Counts]:
-    found = re.search(r"^([\d,]+) scripts, .* ([\d,]+) compactions .*, ([\d,]+) wrong\s*\Z", said, re.M)
+    found = re.search(r"^([\d,]+) scripts, .* ([\d,]+) (?:compactions|joins) .*, ([\d,]+) wrong\s*\Z", said, re.M)
     if not found:
         return None
     made, failed = (int(it.replace(",", "")) for it in found.groups()[1:])
@@ -212,6 +217,7 @@ def after_gate(seed: str) -> List[Part]:
     fuzz = python("fuzz/fuzz.py", "--lines", FUZZED_LINES, "--minutes", 1, "--seconds", 60, "--seed", seed)
     explain = python("fuzz/explain.py", "--logs", EXPLAINED_LOGS, "--minutes", 0.5, "--seed", seed)
     compact = python("fuzz/compact.py", "--lines", COMPACTED_LINES, "--minutes", 0.5, "--kinds", *COMPACTED_KINDS, "--seed", seed)
+    join = python("fuzz/join.py", "--minutes", 0.33, "--kinds", *JOINED_KINDS, "--seed", seed)
     follow = python("follow/checks/many.py", "--seed", seed)
     cut_off = python("follow/checks/partition.py")
     secured = python("follow/checks/secured.py")
@@ -225,7 +231,10 @@ def after_gate(seed: str) -> List[Part]:
         Part(f"fuzz, seed {seed}", fuzz, 400, scripts),
         Part(f"explanations, seed {seed}", explain, 300, explanations),
         Part(f"compactions, seed {seed}", compact, 400, compactions),
+        Part(f"joins, seed {seed}", join, 400, compactions),
         Part("followers of one log", follow, 900, tried_and_wrong, ("etcd",)),
+        Part("followers that join", [*follow, "--format", "3"], 900, tried_and_wrong, ("etcd",)),
+        Part("a log without end", python("follow/checks/endless.py", "--seed", seed), 900, tried_and_wrong, ("etcd",)),
         Part("a follower that is cut off", cut_off, 300, tried_and_wrong, ("etcd", "ip")),
         Part("a follower by TLS", secured, 200, tried_and_wrong, ("etcd", "etcdctl", "openssl")),
         Part("a Ceph cluster", cluster, 1200, states_of_groups, ("ceph", "ceph-mon", "ceph-osd", "ceph-mgr", "crushtool", "osdmaptool")),

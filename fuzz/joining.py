@@ -8,6 +8,7 @@ still ask for it. Reports stay as they are, and in their order.
 import itertools
 from typing import Any, Dict, FrozenSet, Iterable, Iterator, List, Optional, Set, Tuple
 
+import compact
 import grammar
 import model
 import peering
@@ -216,3 +217,13 @@ def joined(entries: List[Line], left_out: Iterable[str] = ()) -> Optional[List[L
     is_legal = is_legal and all(map(made.put, reports[:early])) and made.put(made.incremental(blocks[-1]))
     ends = [it for it in entries if it["op"] == "close"]
     return made.lines if is_legal and all(map(made.put, [*reports[early:], *ends])) else None
+
+
+def by_model(text: bytes, left_out: Iterable[str] = ()) -> Tuple[bytes, bytes]:
+    """What `compact --join` may write of a script, and what it says on standard error then."""
+    taken, refused = compact.taken_of(text, 3)
+    kept = taken.kept()
+    entries = [taken.entries[at] for at in kept]
+    lines = {id(entry): taken.lines[at] for entry, at in zip(entries, kept)}
+    found = [lines.get(id(it)) or grammar.compact(it) for it in joined(entries, left_out) or entries]
+    return compact.text_of(found), compact.message(len(taken.lines), len(found), refused)

@@ -23,10 +23,12 @@ SAYS = {
     "fuzz/fuzz.py": "1,060 scripts, 55,530 lines, 9 bytes, 0 wrong answers, 0 other statuses, 0 hangs.",
     "fuzz/explain.py": "60 logs, 125 ends\n1,352 groups, 800 subsets, 0 wrong",
     "follow/checks/many.py": "5,000 lines in 40 s\n7600 checks, 0 wrong",
+    "follow/checks/endless.py": "70,200 maps, 78,004 places and 15 marks in 40 s\n780 checks, 0 wrong",
     "follow/checks/partition.py": "right: it has caught up\n14 checks, 0 wrong",
     "follow/checks/secured.py": "5 checks, 0 wrong",
     "dev/check_against_ceph.py": "1,175 states of groups, 0 differences without a rule, 60 s\n\n| Step |",
     "fuzz/compact.py": "Scripts: 9 story.\n9 scripts, 9,041 lines, 1,022 compactions which left out 5 of 9 entries, 8 answers after them, 0 wrong",
+    "fuzz/join.py": "Scripts: 9 story.\n9 scripts, 9,041 lines, 31 joins which left 5 of 9 incrementals, 8 answers after them, 4 explanations, 0 wrong",
 }
 STUB = "import sys, time\n{before}\nprint({said!r})\nsys.exit({status})\n"
 UNIT_TEST = """import os, unittest
@@ -54,8 +56,8 @@ exit {status}
 """
 BUILT_C = 'mkdir -p "$2" && touch "$2/libpgpeer.so"'
 ON_C = 1 + 2 * 9 + 700  # the build of the library for C, and its checks
-FOLLOWED, IN_CEPH = 7600 + 14 + 5, 1175
-ALL = 412 + ON_C + 4 + 110 + 4 + 47 + 14 + 24 + 1060 + 1352 + 1022 + FOLLOWED + IN_CEPH + 4 * 261 + 2 * 100
+FOLLOWED, IN_CEPH = 2 * 7600 + 780 + 14 + 5, 1175
+ALL = 412 + ON_C + 4 + 110 + 4 + 47 + 14 + 24 + 1060 + 1352 + 1022 + 31 + FOLLOWED + IN_CEPH + 5 * 261 + 2 * 100
 
 
 class WithTree(Room):
@@ -106,6 +108,7 @@ class Runs(WithTree):
         self.assertRegex("\n".join(lines), r"\nfuzz, seed 7: 1060 passed, 0 failed \(\d+ s\)\n")
         self.assertRegex("\n".join(lines), r"\nexplanations, seed 7: 1352 passed, 0 failed \(\d+ s\)\n")
         self.assertRegex("\n".join(lines), r"\ncompactions, seed 7: 1022 passed, 0 failed \(\d+ s\)\n")
+        self.assertRegex("\n".join(lines), r"\njoins, seed 7: 31 passed, 0 failed \(\d+ s\)\n")
         self.assertRegex("\n".join(lines), r"\nallocations refused, a compaction: 261 passed, 0 failed \(\d+ s\)\n")
         self.assertRegex("\n".join(lines), r"\ntests of dev/, with the program: 2 passed, 0 failed \(\d+ s\)\n")
 
@@ -158,7 +161,7 @@ class Runs(WithTree):
         for name in SAYS:
             self.stub(name, "Traceback", 1)
         status, lines = self.run_all()
-        self.assertEqual((status, lines[-1]), (1, "119 passed, 20 failed"))
+        self.assertEqual((status, lines[-1]), (1, "119 passed, 24 failed"))
 
     def test_a_part_without_end_is_stopped(self):
         self.stub("dev/check_statuses.py", "", before="time.sleep(600)")
@@ -171,7 +174,7 @@ class Runs(WithTree):
     def test_without_a_compiler_etcd_and_ceph_what_needs_them_is_skipped(self):
         with mock.patch.object(run_tests.shutil, "which", lambda name: None):
             status, lines = self.run_all()
-        self.assertEqual((status, lines[-1]), (0, f"{ALL - ON_C - FOLLOWED - IN_CEPH - 4 * 261 - 2 * 100} passed, 0 failed"))
+        self.assertEqual((status, lines[-1]), (0, f"{ALL - ON_C - FOLLOWED - IN_CEPH - 5 * 261 - 2 * 100} passed, 0 failed"))
         self.assertIn("followers of one log: skipped, since etcd isn't there", lines)
         self.assertIn("a follower that is cut off: skipped, since etcd isn't there", lines)
         self.assertIn("a Ceph cluster: skipped, since ceph isn't there", lines)
@@ -237,6 +240,7 @@ class Counts(unittest.TestCase):
             (run_tests.scripts, "1,060 scripts, 5 lines, 2 wrong answers, 1 other statuses, 3 hangs.\nScripts: 1 full.\n", (1054, 6)),
             (run_tests.explanations, "1,352 groups, 8,001 subsets, 3 wrong\n", (1349, 3)),
             (run_tests.compactions, "12 scripts, 9,000 lines, 1,022 compactions which left out 5 of 9 entries, 8 answers after them, 2 wrong\n", (1020, 2)),
+            (run_tests.compactions, "12 scripts, 9,000 lines, 31 joins which left 5 of 9 incrementals, 8 answers after them, 2 wrong\n", (29, 2)),
             (run_tests.built, f"{run_tests.C_LIBRARY.parent}\n", (1, 0)),
             (run_tests.allocations, "153 allocations\n   151 all answers\nwrong where these were refused: [3, 17]\n", (151, 2)),
         ]:

@@ -1,7 +1,7 @@
 #!/usr/bin/env python3
 """Runs followers and nodes of etcd for a time, while they are killed and stopped at random, and checks all that clients were told.
 
-    follow/checks/long_run.py [--program PATH] [--minutes T] [--pause S] [--every N] [--seed S]
+    follow/checks/long_run.py [--program PATH] [--format V] [--minutes T] [--pause S] [--every N] [--seed S]
 
 Clients append and ask through all followers, with time-outs of a few seconds, after which they tell the same line to another one.
 Meanwhile every few seconds a node of etcd, a follower or the program of a follower gets SIGKILL and is run again, or SIGSTOP and
@@ -24,6 +24,8 @@ import cluster
 import outages
 import truth
 from load import Load
+
+from pgpeer_follow.core import Program
 
 SETTLING = 180.0  # seconds within which all follow, once nothing is killed any more
 
@@ -109,6 +111,7 @@ def settled(made: cluster.Cluster, load: Load) -> List[truth.Answer]:
 
 def options() -> argparse.Namespace:
     parser = cluster.command_line(__doc__)
+    parser.add_argument("--format", default="2", choices=("2", "3"), help="of the followers")
     parser.add_argument("--minutes", type=float, default=60.0, metavar="T")
     parser.add_argument("--pause", type=float, default=0.05, metavar="S", help="seconds, of each client after a line")
     parser.add_argument("--every", type=int, default=2000, metavar="N", help="places between two marks")
@@ -123,7 +126,7 @@ def say(text: str) -> None:
 def main() -> int:
     told = options()
     rng = random.Random(told.seed)
-    with cluster.Cluster(program=told.program, words=["--snapshot-every", str(told.every), "--wait", "6"]) as made:
+    with cluster.Cluster(program=told.program, words=["--snapshot-every", str(told.every), "--wait", "6", "--format", told.format]) as made:
         recorder = truth.Recorder(made)
         load = Load(made.ports, rng, 10**9, client_seconds=4.0, pause=told.pause)
         nuisance = Nuisance(made, random.Random(f"{told.seed}/nuisance"))
@@ -141,7 +144,7 @@ def main() -> int:
         load.answers += settled(made, load)
         log = recorder.finish()
         starts_over = sum(it.read_text().count("goes on from the snapshot") for it in made.folder.glob("f*.log"))
-        wrong = load.wrong + truth.misplaced(log, load.told, load.unsure) + truth.faults_of(told.program, log, load.answers)
+        wrong = load.wrong + truth.misplaced(log, load.told, load.unsure) + truth.faults_of(Program(told.program, told.format), log, load.answers)
     rows = [
         f"| minutes | {took / 60:.0f} |",
         f"| places of the log | {len(log):,} |",

@@ -4,7 +4,7 @@ import http.client
 import json
 import signal
 import time
-from typing import List, Tuple
+from typing import Iterable, List, Tuple
 
 import cluster
 from load import Load
@@ -61,8 +61,13 @@ def leading_node(made: cluster.Cluster) -> cluster.Process:
     return made.nodes[0]
 
 
-def kept_short(made: cluster.Cluster, log: List[Entry]) -> Found:
-    """The last two snapshots are there, the log begins behind the first of them, and a follower that was run again began there."""
+def incrementals(lines: Iterable[bytes]) -> int:
+    return sum(b'"op":"inc"' in it for it in lines)
+
+
+def kept_short(made: cluster.Cluster, log: List[Entry], version: str) -> Found:
+    """The last two snapshots are there, the log begins behind the first of them, and a follower that was run again began there. In
+    version 3 incrementals were joined."""
     keys, to_etcd = Keys("/pgpeer/"), made.to_etcd()
     store, end = Store(keys, join(keys, to_etcd), to_etcd), time.monotonic() + 60
     wanted = [it.place for it in log if it.is_mark][-2:]
@@ -75,10 +80,13 @@ def kept_short(made: cluster.Cluster, log: List[Entry]) -> Found:
             break
         time.sleep(0.5)
     is_short = places == wanted and (len(places) < 2 or first == places[0] + 1)
+    script = store.latest(0).script if places else ()
+    left, told = incrementals(script), incrementals(it.line for it in log if places and it.place < places[-1])
     begun = made.followers[0].log.read_text().rpartition("listens at")[2]
     return [
         (is_short, f"after marks {wanted} there are snapshots of {places}, and the log begins at {first}"),
         (not wanted or "goes on from the snapshot" in begun, f"a follower that was run again says {begun}"),
+        (version == "2" or not places or left < told, f"the last snapshot has {left} incrementals of {told}"),
     ]
 
 

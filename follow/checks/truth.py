@@ -1,20 +1,23 @@
 """Holds what followers answered against the program, run on the lines of the log."""
 
+import json
 import math
 import re
 import subprocess
 import threading
 import time
 from collections import defaultdict
-from typing import DefaultDict, Dict, List, NamedTuple, Sequence, Tuple
+from typing import Any, DefaultDict, Dict, List, NamedTuple, Sequence, Tuple
 
 import cluster  # noqa: F401  (finds the package)
+from pgpeer_follow.core import Program
 from pgpeer_follow.faults import Fault
 from pgpeer_follow.keys import Entry, Keys
 from pgpeer_follow.log import Log, join
 
 COUNT = re.compile(rb'"count":\d+')
 FULL = b'"refused":"LogFull"'
+AT_MARKS = {"2": ("--format", "2"), "3": ("--join", "--format", "3")}  # options of `compact`, by the version of lines
 
 
 class Recorder:
@@ -72,13 +75,13 @@ class Answer(NamedTuple):
     answer: bytes
 
 
-def piped(program: str, command: str, lines: Sequence[bytes]) -> List[bytes]:
+def piped(words: Sequence[str], lines: Sequence[bytes]) -> List[bytes]:
     text = b"".join(it + b"\n" for it in lines)
-    ended = subprocess.run([program, command], input=text, stdout=subprocess.PIPE, stderr=subprocess.DEVNULL, check=True)
+    ended = subprocess.run(words, input=text, stdout=subprocess.PIPE, stderr=subprocess.DEVNULL, check=True)
     return ended.stdout.split(b"\n")[:-1]
 
 
-def wanted_of(program: str, log: Sequence[Entry], asked: Dict[int, List[bytes]], follows_marks: bool) -> Tuple[Dict[int, bytes], Dict[int, List[bytes]]]:
+def wanted_of(program: Program, log: Sequence[Entry], asked: Dict[int, List[bytes]], follows_marks: bool) -> Tuple[Dict[int, bytes], Dict[int, List[bytes]]]:
     """What the program answers to the entries, by their places, and to the questions at each place: on the lines of the log, and
     with marks followed on what `compact` leaves at each with the lines since."""
     script: List[bytes] = list(asked.get(0, []))
@@ -88,7 +91,7 @@ def wanted_of(program: str, log: Sequence[Entry], asked: Dict[int, List[bytes]],
     questions: DefaultDict[int, List[bytes]] = defaultdict(list)
 
     def play() -> None:
-        for (place, is_entry), answer in zip(whose, piped(program, "run", script)):
+        for (place, is_entry), answer in zip(whose, piped([program.path, "run", "--format", program.version], script)):
             if is_entry:
                 entries[place] = answer
             elif place >= 0:
@@ -97,7 +100,7 @@ def wanted_of(program: str, log: Sequence[Entry], asked: Dict[int, List[bytes]],
     for entry in log:
         if entry.is_mark and follows_marks:
             play()
-            kept = piped(program, "compact", kept)
+            kept = piped([program.path, "compact", *AT_MARKS[program.version]], kept)
             script, whose = list(kept), [(-1, False)] * len(kept)
         elif entry.line:
             kept.append(entry.line)
@@ -110,14 +113,27 @@ def wanted_of(program: str, log: Sequence[Entry], asked: Dict[int, List[bytes]],
     return entries, questions
 
 
+def left_of(answer: bytes, version: str) -> Any:
+    """What is the same in an answer on the whole log and one behind marks: all but the count, and in version 3 but the past
+    intervals that ended before the group last began to serve."""
+    if version == "2" or not answer:
+        return COUNT.sub(b"", answer)
+    found = json.loads(answer)
+    return {
+        key: [it for it in value if it["last"] >= found["les"]] if key == "intervals" and "les" in found else value
+        for key, value in found.items()
+        if key != "count"
+    }
+
+
 def first_full(entries: Dict[int, bytes]) -> float:
     """The first place whose entry found the log full."""
     return min((place for place, answer in entries.items() if FULL in answer), default=math.inf)
 
 
-def faults_of(program: str, log: Sequence[Entry], answers: Sequence[Answer]) -> List[str]:
-    """What is wrong with answers: they aren't the program's on the log up to their place, byte for byte; or, but for the counts of
-    entries, on the log without its marks, until that is full."""
+def faults_of(program: Program, log: Sequence[Entry], answers: Sequence[Answer]) -> List[str]:
+    """What is wrong with answers: they aren't the program's on the log up to their place, byte for byte; or, but for what marks
+    take away, on the log without its marks, until that is full."""
     asked: DefaultDict[int, List[bytes]] = defaultdict(list)
     for it in answers:
         if it.line:
@@ -130,9 +146,8 @@ def faults_of(program: str, log: Sequence[Entry], answers: Sequence[Answer]) -> 
         for it in answers:
             wanted = next(left[it.at], b"") if it.line else entries.get(it.at, b"")
             found = it.answer
-            if not follows_marks:
-                wanted, found = COUNT.sub(b"", wanted), COUNT.sub(b"", found)
-            if found != wanted and it.at < end:
+            is_so = found == wanted or not follows_marks and left_of(found, program.version) == left_of(wanted, program.version)
+            if not is_so and it.at < end:
                 faults.append(f"at {it.at}, {'with' if follows_marks else 'without'} marks: {it.line!r} is answered {found!r}, and not {wanted!r}")
     return faults
 

@@ -9,7 +9,7 @@ import io
 import subprocess
 import threading
 import time
-from typing import Callable, Deque, List, NamedTuple, Optional, Sequence, Tuple
+from typing import Callable, Deque, List, NamedTuple, Optional, Sequence
 
 from .faults import CoreFault
 
@@ -21,13 +21,17 @@ HANGS = 30.0  # seconds without an answer, after which a program is given up
 
 
 class Program(NamedTuple):
-    """The built program, and the options that its commands get."""
+    """The built program, and up to which version it reads lines."""
 
     path: str
-    options: Tuple[str, ...] = ()
+    version: str = "2"
 
-    def words(self, command: str) -> List[str]:
-        return [self.path, command, *self.options]
+    def run(self) -> List[str]:
+        return [self.path, "run", "--format", self.version]
+
+    def compact(self) -> List[str]:
+        """In version 3 incrementals can be joined too."""
+        return [self.path, "compact", *(["--join"] if self.version == "3" else []), "--format", self.version]
 
 
 class Core:
@@ -42,7 +46,7 @@ class Core:
         self.lines = self.bytes = 0  # that it was told
         self.moved = time.monotonic()  # when it last answered, or was told a line with nothing before it
         try:
-            self.child = subprocess.Popen(program.words("run"), stdin=subprocess.PIPE, stdout=subprocess.PIPE, bufsize=0)
+            self.child = subprocess.Popen(program.run(), stdin=subprocess.PIPE, stdout=subprocess.PIPE, bufsize=0)
         except OSError as fault:
             raise CoreFault(f"{program.path} can't be run: {fault.strerror}") from None
         threading.Thread(target=self.hand_out, name="core", daemon=True).start()
@@ -108,10 +112,10 @@ class Core:
 
 
 def compacted(program: Program, script: Sequence[bytes]) -> List[bytes]:
-    """The lines of a script that remain where it is compacted. CoreFault: the program didn't say."""
+    """The lines that stand for a script once it is compacted: the same for every follower. CoreFault: the program didn't say."""
     text = b"".join(line + b"\n" for line in script)
     try:
-        ended = subprocess.run(program.words("compact"), input=text, capture_output=True, timeout=COMPACTING, check=False)
+        ended = subprocess.run(program.compact(), input=text, capture_output=True, timeout=COMPACTING, check=False)
     except (OSError, subprocess.TimeoutExpired) as fault:
         raise CoreFault(f"compact didn't end: {fault}") from None
     if ended.returncode:

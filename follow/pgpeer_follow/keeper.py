@@ -53,27 +53,32 @@ class Keeper:
         if not is_clean:
             manifests = store.manifests()
             self.stored = manifests[-1].place if manifests else 0
-        base, place = self.replica.base, self.replica.place
+        base = self.replica.base
         if base.place > self.stored:
             made = store.store(base, election.fence(), election.leads)
             self.stored = base.place
             self.made += 1
             log.info("snapshot of place %d: %d lines, %d bytes in %d pieces", made.place, len(base.script), made.size, made.pieces)
             is_clean = False
-        elif place - base.place >= self.every:
-            self.mark(place, election, to_log)
+        elif self.is_due():
+            self.mark(self.replica.place, election, to_log)
         if not is_clean:
             gone = store.clean(election.fence())
             if gone:
                 log.info("the log up to place %d is deleted", gone)
         return True
 
+    def is_due(self) -> bool:
+        """Tells whether there are enough places since the last mark. A replica that passes one changes its base first."""
+        place = self.replica.place
+        return place - self.replica.base.place >= self.every
+
     def mark(self, place: int, election: Election, to_log: Log) -> None:
-        """Has each follower compact its script at the next place. Where lines of others are faster for long, it is left to the
-        next look."""
+        """Has each follower compact its script at the next place. Where lines of others are faster for long, or a mark that is put
+        already takes its time, it is left to the next look."""
         until = time.monotonic() + MARKING
         with contextlib.suppress(NotYet):
-            while time.monotonic() < until:
+            while time.monotonic() < until and self.is_due():
                 now = to_log.append(place, [MARK], election.fence())
                 if now is None:
                     log.info("a mark at place %d", place + 1)

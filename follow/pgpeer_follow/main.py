@@ -33,7 +33,7 @@ def parser() -> argparse.ArgumentParser:
     made.add_argument("--tell", metavar="PORT or PATH", help="tells a follower the lines of standard input, and ends")
     made.add_argument("--metrics", type=int, metavar="PORT", help="has /metrics and /health at a port of the loopback")
     made.add_argument("--program", default="pgpeer", metavar="PATH", help="the built program")
-    made.add_argument("--format", default="2", choices=("2", "3"), help="up to which version it reads lines")
+    made.add_argument("--format", default="2", choices=("2", "3"), help="up to which version it reads lines; with 3 incrementals are joined too")
     made.add_argument("--snapshot-every", type=int, default=10_000, metavar="N", help="compacts after as many places, 1 to 50000")
     made.add_argument("--wait", type=float, default=10.0, metavar="SECONDS", help="for a place or for etcd at most, up to 300")
     made.add_argument("--connections", type=int, default=1000, metavar="N", help="at once at most")
@@ -75,7 +75,7 @@ def follower_of(options: argparse.Namespace) -> Follower:
         raise ValueError("--snapshot-every, --wait or --connections is out of range")
     if not options.endpoints.strip(","):
         raise ValueError("no endpoint is told")
-    settings = Settings(Program(program, ("--format", options.format)), options.wait, options.snapshot_every, options.log_id, options.create)
+    settings = Settings(Program(program, options.format), options.wait, options.snapshot_every, options.log_id, options.create)
     return Follower(Keys(options.prefix), access_of(options), settings)
 
 

@@ -1,6 +1,8 @@
 #!/usr/bin/env python3
-"""Stands in for the built program, by the model in fuzz/: `standin.py run`, `standin.py compact`, also with `--format 3`."""
+"""Stands in for the built program, by the model in fuzz/: `standin.py run`, `standin.py compact`, also with `--format 3`, and
+`standin.py compact --join --format 3`. With MOST_TAKEN in its environment a log takes as many entries."""
 
+import os
 import pathlib
 import sys
 
@@ -18,16 +20,23 @@ def run(last: int) -> None:
             sys.stdout.buffer.flush()
 
 
+def shorten(last: int, joins: bool) -> None:
+    import joining  # takes longer to load than a run
+
+    script = sys.stdin.buffer.read()
+    text, said = joining.by_model(script) if joins else joining.compact.by_model(script, last)
+    sys.stdout.buffer.write(text)
+    sys.stderr.buffer.write(said)
+
+
 def main() -> None:
-    last = 3 if sys.argv[2:] == ["--format", "3"] else 2
-    if sys.argv[1] == "run":
+    command, *options = sys.argv[1:]
+    last = 3 if options[-2:] == ["--format", "3"] else 2
+    model.MOST_TAKEN = int(os.environ.get("MOST_TAKEN", model.MOST_TAKEN))
+    if command == "run":
         run(last)
     else:
-        import compact  # takes longer to load than a run
-
-        text, said = compact.by_model(sys.stdin.buffer.read(), last)
-        sys.stdout.buffer.write(text)
-        sys.stderr.buffer.write(said)
+        shorten(last, "--join" in options)
 
 
 if __name__ == "__main__":

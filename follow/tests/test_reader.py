@@ -133,6 +133,16 @@ class Keeps(WithReader):
         self.keeper.mark(10, self.election, self.log)
         self.assertEqual(self.replica.base.place, 14)
 
+    def test_a_mark_that_takes_its_time_is_put_once(self):
+        self.append(10)
+        self.reader.catch_up(self.log)
+        self.keeper.mark(10, self.election, self.log)
+        self.assertEqual((self.log.head(), self.replica.place), (11, 10))
+        real = self.replica.wait
+        self.replica.wait = lambda place, until: (self.reader.catch_up(self.log), real(place, until))
+        self.keeper.mark(10, self.election, self.log)
+        self.assertEqual((self.log.head(), self.replica.base.place), (11, 11))
+
     def test_who_is_deposed_puts_no_mark(self):
         self.append(10)
         self.etcd.revoke(self.election.lease)

@@ -13,12 +13,14 @@ import unittest.mock
 
 import support
 from support import ASK, INFO, MAP, STANDIN, wait_until
+import truth
 from pgpeer_follow import core as cores
 from pgpeer_follow import replica as replicas
 from pgpeer_follow.core import Core, Program, compacted
 from pgpeer_follow.faults import CoreFault, NotYet
 from pgpeer_follow.keys import Entry
 from pgpeer_follow.replica import Replica
+from pgpeer_follow.snapshot import packed, unpacked
 
 
 def entries_of(lines, first=1):
@@ -30,6 +32,12 @@ def by_program(command, lines, *options):
     return subprocess.run([STANDIN, command, *options], input=text, capture_output=True, check=True).stdout.split(b"\n")[:-1]
 
 
+def flaps(first, last):
+    """The maps of these epochs: device 2 falls in an even one, and comes back in an odd one."""
+    return [b'{"op":"inc","epoch":%d,"%s":[2]}' % (epoch, b"up" if epoch % 2 else b"down") for epoch in range(first, last + 1)]
+
+
+SERVED = b'{"op":"info","pg":[1,0],"from":[0,0],"stamp":%d,"les":%d,"history_les":%d,"last_update":[0,0],"log_tail":[0,0],"complete":true}'
 LINES = [MAP, *(INFO % device for device in (0, 1, 2, 0, 1, 9)), b'{"op":"noop"}', INFO % 2]
 
 
@@ -91,21 +99,46 @@ class Marks(WithReplica):
     def test_lines_of_version_3_where_they_are_asked_for(self):
         straw2 = MAP.replace(b"{", b'{"v":3,', 1).replace(b'"uniform","items":[0,1,2]', b'"straw2","items":[0,1,2],"weights":[1,2,3]')
         lines = [straw2, INFO % 1, b'{"op":"inc","v":3,"after":1,"epoch":9}']
-        for options in ((), ("--format", "3")):
-            replica = self.made(Program(STANDIN, options))
+        for version, count in (("2", 0), ("3", 3)):
+            replica = self.made(Program(STANDIN, version))
             replica.apply([*entries_of(lines), Entry(4, is_mark=True)])
-            kept = by_program("compact", lines, *options)
-            self.assertEqual((len(kept), self.asked(replica)), (3 * bool(options), (4, by_program("run", [*kept, ASK], *options)[-1])))
+            kept = list(replica.base.script)
+            self.assertEqual((len(kept), self.asked(replica)), (count, (4, by_program("run", [*kept, ASK], "--format", version)[-1])))
+
+    def test_with_version_3_a_mark_joins_incrementals(self):
+        lines = [MAP, *flaps(2, 10), SERVED % ((10,) * 3)]
+        for version, joins in (("2", []), ("3", ["--join", "--format", "3"])):
+            replica = self.made(Program(STANDIN, version))
+            replica.apply([*entries_of(lines), Entry(12, is_mark=True)])
+            self.assertEqual(list(replica.base.script), by_program("compact", lines, *joins))
+            self.assertEqual(sum(b'"op":"inc"' in it for it in replica.base.script), 2 if joins else 10)
+            self.assertEqual([it.answer for it in replica.base.tokens], by_program("run", lines))
+            (at, answer), whole = self.asked(replica), by_program("run", [*lines, ASK])[-1]
+            self.assertEqual((at, answer == whole), (12, not joins))
+            self.assertEqual(truth.left_of(answer, version), truth.left_of(whole, version))
+
+    def test_with_version_3_maps_go_on_though_a_log_takes_fewer(self):
+        few = self.program(f'MOST_TAKEN=20 exec {STANDIN} "$@"').path
+        for version, is_full in (("2", True), ("3", False)):
+            replica = self.made(Program(few, version))
+            replica.apply(entries_of([MAP]))
+            for number in range(6):
+                lines = [*flaps(6 * number + 2, 6 * number + 7), SERVED % ((6 * number + 7,) * 3)]
+                replica.apply([*entries_of(lines, 8 * number + 2), Entry(8 * number + 9, is_mark=True)])
+            refused = [answer for answer in self.heard.values() if b"refused" in answer]
+            self.assertEqual((len(self.heard), any(truth.FULL in it for it in refused)), (43, is_full))
+            self.assertEqual(bool(refused), is_full)
 
     def test_whoever_begins_from_the_snapshot_answers_alike(self):
-        first, second = self.made(), self.made()
-        first.apply([*entries_of(LINES), Entry(10, is_mark=True)])
-        second.start_over(first.base)
-        self.assertEqual(self.heard[3], by_program("run", LINES)[2])
-        for replica in (first, second):
-            replica.apply([*entries_of([INFO % 0, INFO % 1], 11), Entry(13, is_mark=True), *entries_of([INFO % 2], 14)])
-        self.assertEqual(self.asked(first), self.asked(second))
-        self.assertEqual(first.base, second.base)
+        for version in ("2", "3"):
+            first, second = self.made(Program(STANDIN, version)), self.made(Program(STANDIN, version))
+            first.apply([*entries_of([*LINES, *flaps(2, 6)]), Entry(15, is_mark=True)])
+            second.start_over(unpacked(packed(first.base)))
+            self.assertEqual(self.heard[3], by_program("run", LINES)[2])
+            for replica in (first, second):
+                replica.apply([*entries_of([INFO % 0, *flaps(7, 9)], 16), Entry(20, is_mark=True), *entries_of([INFO % 2], 21)])
+            self.assertEqual(self.asked(first), self.asked(second))
+            self.assertEqual(first.base, second.base)
 
     def test_questions_are_answered_while_a_mark_takes_its_time(self):
         slow = self.program(f'[ "$1" = compact ] && sleep 2; exec {STANDIN} "$1"')

@@ -264,6 +264,14 @@ class Commands(unittest.TestCase):
             status, said = self.status(*words)
             self.assertEqual((status, "pgpeer-follow: " in said), (2, True), (words, said))
 
+    def test_the_version_is_that_of_what_the_program_runs(self):
+        for words, version, joins in (((), "2", False), (("--format", "3"), "3", True)):
+            follower = main.follower_of(main.parser().parse_args(["--program", STANDIN, "--listen", "0", *words]))
+            self.addCleanup(follower.stop)
+            program = follower.settings.program
+            self.assertEqual(program.run(), [STANDIN, "run", "--format", version])
+            self.assertEqual("--join" in program.compact(), joins)
+
     def test_a_socket_that_can_t_be_had(self):
         self.assertEqual(self.status("--program", STANDIN, "--socket", "/nowhere/s")[0], 3)
         with mock.patch.object(teller, "CONNECTING", 0.1):

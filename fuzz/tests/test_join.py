@@ -85,13 +85,8 @@ def by_model(words, text, seconds, *words_of_run, left_out=()):
         return fuzz.Run(fuzz.modelled(text.split(b"\n"), last).wanted(), 0, b"")
     if words_of_run[0] == "explain":
         return fuzz.Run(explained(text), 0, b"")
-    taken, refused = compact.taken_of(text, last)
-    kept = taken.kept()
-    entries, lines = [taken.entries[at] for at in kept], [taken.lines[at] for at in kept]
-    made = joining.joined(entries, left_out) or entries
-    lines_of = {id(entry): line for entry, line in zip(entries, lines)}
-    found = [lines_of.get(id(it)) or grammar.compact(it) for it in made]
-    return fuzz.Run(compact.text_of(found), 0, compact.message(len(taken.lines), len(found), refused))
+    out, said = joining.by_model(text, left_out)
+    return fuzz.Run(out, 0, said)
 
 
 def cut_at(entries, *places):
