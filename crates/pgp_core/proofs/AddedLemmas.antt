@@ -65,6 +65,16 @@ lines-cases format P log line lines none some = go (added_by format log line) re
   go None is = rw is (none is)
   go (Some entry) is = rw is (some entry is)
 
+-- the log with what the lines add, past the first of them
+pub past-line : (format : Format) (log : List Entry) (line : List ℕ) (lines : List (List ℕ))
+    → log ++ entries_of_lines (entry_lines format log (line ∷ lines)) ≡ with_added log (added_by format log line) ++ entries_of_lines (entry_lines format (with_added log (added_by format log line)) lines)
+past-line format log line lines =
+    let past : List Entry → List Entry = λ l. l ++ entries_of_lines (entry_lines format l lines) in
+    let P : List EntryLine → Type 0 = λ l. log ++ entries_of_lines l ≡ past (with_added log (added_by format log line)) in
+    lines-cases format P log line lines (λ none. ap (λ added. past (with_added log added)) (sym none))
+    (λ entry adds. sym (append_assoc log (entry ∷ []) (entries_of_lines (entry_lines format (log ++ entry ∷ []) lines)))
+    ∙ ap (λ added. past (with_added log added)) (sym adds))
+
 -- the log that they make is legal
 pub lines-legal : (format : Format) (log : List Entry) (lines : List (List ℕ)) → is_legal log ≡ true → is_legal (log ++ entries_of_lines (entry_lines format log lines)) ≡ true
 lines-legal format log [] legal = ap is_legal (append-nil log) ∙ legal

@@ -4,12 +4,16 @@
 //! and views read, and of each group the same intervals can matter. Its laws say that such logs have alike views, now and after
 //! whatever entries come. So incrementals may be left out and others pass over their epochs.
 //!
-//! [`pieces_of`] makes a shorter log, of which nothing is promised. [`are_alike`] decides whether two logs are alike.
+//! [`pieces_of`] makes a shorter log, and [`entry_line`] writes an entry as a line: of both nothing is promised. What they make is
+//! tested by [`are_alike`], which decides whether two logs are alike. So [`join`] gives a log that may stand for another one, and
+//! [`joined_lines`] lines whose log may.
 #![tactic(auto)]
 
 mod alike;
+mod joined;
 pub mod laws;
 mod line;
+mod lines;
 mod lives;
 mod made;
 mod named;
@@ -18,5 +22,7 @@ mod reports;
 mod starts;
 
 pub use alike::are_alike;
-pub use line::inc_line;
+pub use joined::join;
+pub use line::entry_line;
+pub use lines::{entries_if_alike, joined_lines};
 pub use pieces::{Piece, pieces_of};

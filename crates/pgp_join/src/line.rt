@@ -1,27 +1,79 @@
-//! A map incremental as a line.
+//! An entry as a line.
 
 use json::Writer;
 use pgp_ids::{
-    BucketAlg, BucketSpec, DeviceEpoch, DeviceWeight, Incremental, OsdId, Part, PgId, Place,
-    PoolKind, PoolSizes, PoolSpec, TempList,
+    BucketAlg, BucketSpec, DeviceEpoch, DeviceWeight, Entry, Incremental, Info, LogEntry, Member,
+    OsdId, Part, PgId, Place, PoolKind, PoolSizes, PoolSpec, Report, TempList,
 };
-use pgp_text::write_pair;
+use pgp_lines::Format;
+use pgp_text::{EntryOp, write_field, write_pair};
 use std::alloc::{AllocError, Global};
 
-/// The line of version 3 that gives this incremental, without a line feed. Empty lists are left out.
+/// The line of version 3 that gives this entry, without a line feed. Empty lists are left out.
 ///
-/// That it reads back as the incremental is not promised: who writes it reads it.
-pub fn inc_line(alloc: Global, inc: &Incremental) -> Result<Vec<u8>, AllocError> {
+/// That it reads back as the entry is not promised: who writes it reads it.
+pub fn entry_line(alloc: Global, entry: &Entry) -> Result<Vec<u8>, AllocError> {
     let mut out = Writer::new(Vec::new(alloc));
     out.begin_object()?;
-    write_text(&mut out, "op", "inc")?;
-    write_number(&mut out, "v", 3)?;
-    write_number(&mut out, "after", inc.after.number())?;
-    write_number(&mut out, "epoch", inc.epoch.number())?;
-    write_pools(&mut out, inc)?;
-    write_devices(&mut out, inc)?;
+    write_text(&mut out, "op", EntryOp::of(entry).name())?;
+    write_number(&mut out, "v", u32::from(Format::Three.number()))?;
+    match entry {
+        Entry::Inc(inc) => write_inc(&mut out, inc)?,
+        Entry::Info(info) => write_info(&mut out, alloc, info)?,
+        Entry::Entries(report) => write_report(&mut out, alloc, report)?,
+        Entry::Close => {}
+    }
     out.end_object()?;
     Ok(out.into_inner())
+}
+
+fn write_inc(out: &mut Writer, inc: &Incremental) -> Result<(), AllocError> {
+    write_number(out, "after", inc.after.number())?;
+    write_number(out, "epoch", inc.epoch.number())?;
+    write_pools(out, inc)?;
+    write_devices(out, inc)
+}
+
+fn write_info(out: &mut Writer, alloc: Global, info: &Info) -> Result<(), AllocError> {
+    write_sender(out, alloc, &info.pg, &info.member)?;
+    write_number(out, "stamp", info.stamp.number())?;
+    write_number(out, "les", info.les.number())?;
+    write_number(out, "history_les", info.history_les.number())?;
+    write_number(out, "last_epoch_clean", info.last_epoch_clean.number())?;
+    write_field(out, alloc, "last_update", &info.last_update)?;
+    write_field(out, alloc, "log_tail", &info.log_tail)?;
+    write_field(out, alloc, "complete", &info.complete)
+}
+
+fn write_report(out: &mut Writer, alloc: Global, report: &Report) -> Result<(), AllocError> {
+    write_sender(out, alloc, &report.pg, &report.member)?;
+    write_number(out, "stamp", report.stamp.number())?;
+    out.key("log")?;
+    out.begin_array()?;
+    for it in report.log.as_slice() {
+        write_log_entry(out, it)?;
+    }
+    out.end_array()
+}
+
+/// The group, and which of its members tells of it.
+fn write_sender(
+    out: &mut Writer,
+    alloc: Global,
+    pg: &PgId,
+    member: &Member,
+) -> Result<(), AllocError> {
+    write_field(out, alloc, "pg", pg)?;
+    write_field(out, alloc, "from", member)
+}
+
+fn write_log_entry(out: &mut Writer, it: &LogEntry) -> Result<(), AllocError> {
+    out.begin_array()?;
+    out.u64(u64::from(it.version.epoch.number()))?;
+    out.u64(u64::from(it.version.v))?;
+    out.string(it.change.name())?;
+    out.string(it.object.as_str())?;
+    out.end_array()
 }
 
 fn write_number(out: &mut Writer, key: &str, number: u32) -> Result<(), AllocError> {

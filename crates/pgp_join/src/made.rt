@@ -19,27 +19,19 @@ pub(crate) struct Run<'a> {
     pub epoch: Epoch,
     /// Whether devices are destroyed in it that are so at its end.
     pub destroys: bool,
-    /// Whether the run ends the log's incrementals. Only then all is told that is left.
-    pub is_last: bool,
 }
 
 impl Run<'_> {
-    /// The incremental that leads from the one map to the other, as far as it can be told yet. What it can't tell yet stays named.
-    pub fn inc(&self, alloc: Global, named: &mut Named<'_>) -> Result<Incremental, AllocError> {
+    /// The incremental that leads from the one map to the other, as far as it can be told yet.
+    pub fn inc(&self, alloc: Global, named: &Named<'_>) -> Result<Incremental, AllocError> {
         let mut inc = empty(alloc, self.before.epoch(), self.epoch);
-        let mut later: Vec<OsdId> = Vec::new(alloc);
         for number in 0..OsdId::MAX + 1 {
-            let Some(osd) = OsdId::new(number) else {
-                continue;
-            };
-            if (named.has(osd) || self.is_last) && !self.put_device(&mut inc, osd)? {
-                later.push(osd)?;
+            if let Some(osd) = OsdId::new(number) {
+                self.put_device(&mut inc, osd)?;
             }
         }
         for number in 1..=u8::MAX {
-            if let Some(pool) = PoolId::new(number)
-                && named.has_pool(pool)
-            {
+            if let Some(pool) = PoolId::new(number) {
                 self.put_pool(&mut inc, pool)?;
             }
         }
@@ -50,15 +42,11 @@ impl Run<'_> {
             let buckets = copied_buckets(alloc, tree.as_slice())?;
             inc.crush = Some(Seq::from_vec(buckets));
         }
-        named.clear();
-        for osd in &later {
-            named.name(*osd);
-        }
         Ok(inc)
     }
 
-    /// Puts in what becomes of the device. Whether that is all of it.
-    fn put_device(&self, inc: &mut Incremental, osd: OsdId) -> Result<bool, AllocError> {
+    /// Puts in what becomes of the device.
+    fn put_device(&self, inc: &mut Incremental, osd: OsdId) -> Result<(), AllocError> {
         let is_up = self.after.is_up(osd);
         let was_up = self.before.is_up(osd);
         if is_up && !was_up {
@@ -68,28 +56,21 @@ impl Run<'_> {
             inc.down.push(osd)?;
         }
         let is_gone = self.before.exists(osd) && !self.after.exists(osd);
-        let is_destroyed = is_gone && !was_up && self.destroys;
-        if is_destroyed {
+        if is_gone && !was_up && self.destroys {
             inc.gone.push(osd)?;
         }
         if !self.before.exists(osd) && !is_up {
-            return Ok(true);
+            return Ok(());
         }
         let weight = self.after.weight(osd);
         if weight != self.before.weight(osd) {
             inc.weight.push(DeviceWeight { osd, weight })?;
         }
-        let is_told = self.put_epochs(inc, osd, is_up)?;
-        Ok(is_told && (!is_gone || is_destroyed))
+        self.put_epochs(inc, osd, is_up)
     }
 
-    /// Puts in the device's up_thru, and when it was given up for lost, where the epoch of the incremental allows it. Whether that is all.
-    fn put_epochs(
-        &self,
-        inc: &mut Incremental,
-        osd: OsdId,
-        is_up: bool,
-    ) -> Result<bool, AllocError> {
+    /// Puts in the device's up_thru, and when it was given up for lost, where the epoch of the incremental allows it.
+    fn put_epochs(&self, inc: &mut Incremental, osd: OsdId, is_up: bool) -> Result<(), AllocError> {
         let up_thru = self.after.up_thru(osd);
         let told = if up_thru <= self.epoch {
             up_thru
@@ -100,15 +81,13 @@ impl Run<'_> {
             inc.up_thru.push(DeviceEpoch { osd, epoch: told })?;
         }
         let lost_at = self.after.lost_at(osd);
-        let is_new = lost_at != self.before.lost_at(osd);
-        let fits = !is_up && lost_at <= self.epoch;
-        if is_new && fits {
+        if lost_at != self.before.lost_at(osd) && !is_up && lost_at <= self.epoch {
             inc.lost.push(DeviceEpoch {
                 osd,
                 epoch: lost_at,
             })?;
         }
-        Ok(told == up_thru && (!is_new || fits))
+        Ok(())
     }
 
     /// Puts in the pool, or its sizes.

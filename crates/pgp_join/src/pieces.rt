@@ -1,12 +1,13 @@
 //! The pieces of a shorter log: entries of the log as they stand, and incrementals that stand for a run of them.
 
-ghost use Rattle.std.specs.Prelude.{◌≡◌};
+ghost use Rattle.std.specs.Prelude.{◌≡◌, map, IfOk};
+ghost use Rattle.std.specs.Arc.{arc_value};
 
 use super::made::Run;
 use super::named::Named;
 use super::starts::{Starts, incs_of, starts_of};
 use pgp_core::Log;
-use pgp_ids::{Entry, Epoch, Incremental, OsdId};
+use pgp_ids::{Entry, Incremental, OsdId};
 use pgp_log::inc_of;
 use pgp_map::{MapFault, OsdMap};
 use std::alloc::{AllocError, Global};
@@ -17,8 +18,8 @@ use std::sync::Arc;
 pub enum Piece {
     /// The entry at this place of the log.
     Kept(usize),
-    /// An incremental in place of several.
-    Made(Incremental),
+    /// An incremental in place of several, as an entry.
+    Made(Arc<Entry>),
 }
 
 /// The pieces of a shorter log that is meant to be alike; nothing where there is none.
@@ -43,7 +44,9 @@ pub fn pieces_of(alloc: Global, log: &mut Log) -> Result<Option<Vec<Piece>>, All
 }
 
 /// The entries, shared once more.
-fn shared(alloc: Global, entries: &[Arc<Entry>]) -> Result<Vec<Arc<Entry>>, AllocError> {
+pub(crate) fn shared(alloc: Global, entries: &[Arc<Entry>]) -> Result<Vec<Arc<Entry>>, AllocError>
+    ensures { IfOk result (λ copies. map arc_value copies.items ≡ map arc_value entries.now) }
+{
     let mut copies = Vec::new(alloc);
     for entry in entries {
         copies.push(Arc::try_clone(entry)?)?;
@@ -75,12 +78,11 @@ fn has_report_of_destroyed(map: &OsdMap, entries: &[Arc<Entry>]) -> bool {
 
 /// The run of incrementals that is gone through.
 #[derive(Clone, Copy)]
-struct Begun {
-    /// The place of its first entry.
+struct Begun<'a> {
+    /// Its first incremental.
+    first: &'a Incremental,
+    /// The place of that in the log.
     place: usize,
-    epoch: Epoch,
-    /// The epoch of the map that its first incremental changes.
-    after: Epoch,
     /// It is a single incremental so far.
     is_one: bool,
 }
@@ -114,8 +116,8 @@ impl Pieces {
 
     /// Goes through the log run by run. Whether the pieces of all of them fit.
     fn put_runs(&mut self, entries: &[Arc<Entry>], starts: &Starts) -> Result<bool, AllocError> {
-        let mut named = Named::new(self.alloc)?;
-        let mut begun: Option<Begun> = None;
+        let mut named = Named::new(self.alloc);
+        let mut begun: Option<Begun<'_>> = None;
         let mut count = 0usize;
         let mut last_place = 0usize;
         for (place, entry) in entries.iter().enumerate() {
@@ -124,14 +126,14 @@ impl Pieces {
             };
             if starts.has(count) {
                 if let Some(run) = begun
-                    && !self.end_run(entries, run, &mut named, false)?
+                    && !self.end_run(run, &named, !self.keeps_destroyed)?
                 {
                     return Ok(false);
                 }
+                named.clear();
                 begun = Some(Begun {
+                    first: inc,
                     place,
-                    epoch: inc.epoch,
-                    after: inc.after,
                     is_one: true,
                 });
             } else if let Some(run) = begun {
@@ -151,7 +153,7 @@ impl Pieces {
             self.keep_reports(entries, 0, last_place)?;
         }
         if let Some(run) = begun
-            && !self.end_run(entries, run, &mut named, true)?
+            && !self.end_run(run, &named, true)?
         {
             return Ok(false);
         }
@@ -175,37 +177,34 @@ impl Pieces {
         Ok(())
     }
 
-    /// Puts in the incremental of a run: its own, where it is the only one and changes the map of the pieces, or one that is made.
-    fn end_run<'a>(
+    /// Puts in the incremental of a run: its own, where it is the only one and changes the map of the pieces, or one that is made. With
+    /// `destroys` devices are destroyed in it that are so at its end.
+    fn end_run(
         &mut self,
-        entries: &'a [Arc<Entry>],
-        run: Begun,
-        named: &mut Named<'a>,
-        is_last: bool,
+        run: Begun<'_>,
+        named: &Named<'_>,
+        destroys: bool,
     ) -> Result<bool, AllocError> {
-        let destroys = is_last || !self.keeps_destroyed;
-        if let Some(entry) = entries.get(run.place)
-            && let Some(inc) = inc_of(entry)
-            && run.is_one
-            && (destroys || inc.gone.is_empty())
+        let first = run.first;
+        if run.is_one
+            && (destroys || first.gone.is_empty())
             && self.is_same
-            && self.before.epoch() == run.after
+            && self.before.epoch() == first.after
         {
-            named.clear();
             self.pieces.push(Piece::Kept(run.place))?;
-            return take(&mut self.before, inc);
+            return take(&mut self.before, first);
         }
         let made = Run {
             before: &self.before,
             after: &self.after,
-            epoch: run.epoch,
+            epoch: first.epoch,
             destroys,
-            is_last,
         };
         let inc = made.inc(self.alloc, named)?;
         let fits = take(&mut self.before, &inc)?;
         self.is_same = self.before.says_the_same(&self.after);
-        self.pieces.push(Piece::Made(inc))?;
+        let entry = Arc::new(self.alloc, Entry::Inc(inc))?;
+        self.pieces.push(Piece::Made(entry))?;
         Ok(fits)
     }
 }

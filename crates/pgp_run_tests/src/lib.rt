@@ -15,6 +15,8 @@ mod faults;
 #[cfg(test)]
 mod full_log;
 #[cfg(test)]
+mod joins;
+#[cfg(test)]
 mod memory;
 #[cfg(test)]
 mod program;

@@ -10,5 +10,4 @@ pub mod SummaryDevices
 pub mod SummaryHearing
 pub mod SummaryUnheard
 pub mod SummaryGroups
-pub mod ReadingLemmas
 mod JoinLemmas

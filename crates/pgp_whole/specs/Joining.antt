@@ -1,7 +1,6 @@
 -- What joining incrementals of a script did to its reader and writer. Lines up to version 3 are read.
 use Rattle.std.specs.Prelude.{◌≡◌, ℕ, List, [], Bool, true, Option, length}
 use Rattle.std.specs.Io.KnownBytes.{Appends}
-use Rattle.pgp_ids.specs.declared.entry.Entry.{Entry}
 use Rattle.pgp_lines.specs.declared.command.format.Format.TheVariants.{Three}
 use Rattle.pgp_core.specs.Added.{entry_lines, log_of_lines}
 use Rattle.pgp_core.specs.Lines.{lines_of}
@@ -11,10 +10,6 @@ use Rattle.pgp_core.specs.Whole.{IsWholeScript}
 use Rattle.pgp_join.specs.Alike.{AreAlike}
 use Rattle.pgp_whole.specs.Remaining.{compacted_text}
 use Rattle.pgp_whole.specs.declared.compact.Compaction.{Compaction}
-
--- the log of this text, which has so many entries, may stand for the log
-abbrev pub MayStandFor : (log : List Entry) (text : List ℕ) (entries : ℕ) → Type 0
-MayStandFor log text entries = AreAlike log (log_of_lines Three (lines_of text)) × (entries ≡ length (log_of_lines Three (lines_of text)))
 
 -- the log of this text may stand for that of the script where it is compacted
 abbrev pub StandsFor : (script text : List ℕ) → Type 0

@@ -6,14 +6,14 @@ ghost use Rattle.pgp_core.specs.Lines.{lines_of};
 ghost use Rattle.pgp_core.specs.Run.{script_bounds};
 ghost use Rattle.pgp_core.specs.Whole.{GivesTooMuch};
 ghost use Rattle.pgp_lines.specs.declared.command.format.Format.TheVariants.{Three};
-ghost use Rattle.pgp_whole.specs.Joining.{HasJoinedCounts, IsJoined, IsJoinedInPart, MayStandFor, StandsFor};
+ghost use Rattle.pgp_join.specs.Text.{MayStandFor};
+ghost use Rattle.pgp_whole.specs.Joining.{HasJoinedCounts, IsJoined, IsJoinedInPart, StandsFor};
 
 use super::compact::{Compaction, compacted};
 use super::compact_fault::CompactFault;
 use super::entries::{ScriptEntries, read_entries};
-use super::read::take_lines;
-use pgp_core::{Log, SCRIPT_BOUNDS, Sink, Source, WholeFault, pass_on, read_whole};
-use pgp_join::{Piece, are_alike, inc_line, pieces_of};
+use pgp_core::{SCRIPT_BOUNDS, Sink, Source, WholeFault, pass_on, read_whole};
+use pgp_join::{Piece, entries_if_alike, entry_line, pieces_of};
 use pgp_lines::Format;
 use std::alloc::{AllocError, Global};
 
@@ -88,19 +88,6 @@ fn fewer_lines(alloc: Global, read: &mut ScriptEntries) -> Result<Option<Vec<u8>
     Ok(Some(text))
 }
 
-/// How many entries the log of the lines has, if it is alike this log.
-fn entries_if_alike(alloc: Global, log: &mut Log, lines: &[u8]) -> Result<Option<usize>, AllocError>
-    ensures { IfOk result (λ found. IfSome found (λ kept. MayStandFor log.old lines.now kept)) }
-{
-    let mut faults = String::new(alloc);
-    let mut other = take_lines(alloc, Format::Three, lines, &mut faults)?;
-    if are_alike(alloc, log, &mut other)? {
-        Ok(Some(other.entries().len()))
-    } else {
-        Ok(None)
-    }
-}
-
 /// The lines of the pieces, each with a line feed.
 fn text_of_pieces(alloc: Global, lines: &[&[u8]], pieces: &[Piece]) -> Result<Vec<u8>, AllocError> {
     let mut text = Vec::new(alloc);
@@ -111,8 +98,8 @@ fn text_of_pieces(alloc: Global, lines: &[&[u8]], pieces: &[Piece]) -> Result<Ve
                     text.extend_from_slice(line)?;
                 }
             }
-            Piece::Made(inc) => {
-                let line = inc_line(alloc, inc)?;
+            Piece::Made(entry) => {
+                let line = entry_line(alloc, entry)?;
                 text.extend_from_slice(line.as_slice())?;
             }
         }

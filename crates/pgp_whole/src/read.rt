@@ -59,7 +59,7 @@ fn put<E: Write>(errors: &mut E, text: &str)
 }
 
 /// The log that the lines of the script make. What is wrong with them is put behind `faults`, which is empty before.
-pub(crate) fn take_lines(
+fn take_lines(
     alloc: Global,
     format: Format,
     script: &[u8],

@@ -2,7 +2,7 @@ use Rattle.std.proofs.Common.{IfSome, ◌∙◌, subst}
 use Rattle.pgp_lines.specs.declared.command.format.Format.TheVariants.{Three}
 use Rattle.pgp_core.specs.Added.{log_of_lines}
 use Rattle.pgp_core.specs.Lines.{lines_of}
-use Rattle.pgp_whole.specs.Joining.{MayStandFor}
+use Rattle.pgp_join.specs.Text.{MayStandFor}
 use Rattle.pgp_whole.proofs.Reading.{all-read}
 use Rattle.pgp_whole.proofs.join.shorter.Goals as goal
 

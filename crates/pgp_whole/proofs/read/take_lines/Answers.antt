@@ -4,7 +4,7 @@ use Rattle.pgp_lines.specs.declared.command.format.Format.{Format}
 use Rattle.pgp_core.specs.Added.{added_by, entries_of_lines, entry_lines, with_added}
 use Rattle.pgp_core.specs.Lines.{lines_of}
 use Rattle.pgp_whole.specs.Reading.{HasRefused}
-use Rattle.pgp_whole.proofs.ReadingLemmas.{past-line}
+use Rattle.pgp_core.proofs.AddedLemmas.{past-line}
 use Rattle.pgp_whole.proofs.read.take_lines.Goals as goal
 
 pub loop-line-preserved : goal.loop-line-preserved

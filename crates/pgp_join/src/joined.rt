@@ -1,0 +1,88 @@
+//! A shorter log that may stand for a log.
+
+ghost use Rattle.std.specs.Prelude.{◌≡◌, true, map, IfOk, IfSome};
+ghost use Rattle.std.specs.Arc.{arc_value};
+ghost use Rattle.pgp_log.specs.Log.{is_legal};
+ghost use Rattle.pgp_join.specs.Alike.{AreAlike};
+
+use super::alike::are_alike;
+use super::pieces::{Piece, pieces_of, shared};
+use pgp_core::Log;
+use pgp_ids::{Entry, Refusal};
+use pgp_log::Judge;
+use std::alloc::{AllocError, Global};
+use std::sync::Arc;
+
+/// The entries of a log that may stand for this legal log: incrementals between which nothing begins that an answer can tell apart
+/// are one, and the others are shared. Where no such log is found that is shorter, they are the entries of this one.
+pub fn join(alloc: Global, entries: &[Arc<Entry>]) -> Result<Vec<Arc<Entry>>, AllocError>
+    requires { is_legal (map arc_value entries.now) ≡ true }
+    ensures { IfOk result (λ joined. AreAlike (map arc_value entries.now) (map arc_value joined.items)) }
+{
+    let mut log = Log::over(alloc, entries)?;
+    match shorter(alloc, &mut log)? {
+        Some(joined) => Ok(joined),
+        None => shared(alloc, entries),
+    }
+}
+
+/// The entries of a shorter log that may stand for this one; nothing where none is found.
+fn shorter(alloc: Global, log: &mut Log) -> Result<Option<Vec<Arc<Entry>>>, AllocError>
+    ensures { IfOk result (λ found. IfSome found (λ joined. AreAlike log.old (map arc_value joined.items))) }
+{
+    let Some(pieces) = pieces_of(alloc, log)? else {
+        return Ok(None);
+    };
+    let joined = entries_of(alloc, log.entries(), pieces.as_slice())?;
+    if may_stand_for(alloc, log, joined.as_slice())? {
+        Ok(Some(joined))
+    } else {
+        Ok(None)
+    }
+}
+
+/// The entries of the pieces of a log.
+fn entries_of(
+    alloc: Global,
+    entries: &[Arc<Entry>],
+    pieces: &[Piece],
+) -> Result<Vec<Arc<Entry>>, AllocError> {
+    let mut joined = Vec::new(alloc);
+    for piece in pieces {
+        match piece {
+            Piece::Kept(place) => {
+                if let Some(entry) = entries.get(*place) {
+                    joined.push(Arc::try_clone(entry)?)?;
+                }
+            }
+            Piece::Made(entry) => joined.push(Arc::try_clone(entry)?)?,
+        }
+    }
+    Ok(joined)
+}
+
+/// Whether the entries are a legal log that may stand for this one.
+fn may_stand_for(alloc: Global, log: &mut Log, others: &[Arc<Entry>]) -> Result<bool, AllocError>
+    ensures { IfOk result (λ may. may ≡ true → AreAlike log.old (map arc_value others.now)) }
+{
+    if !are_legal(alloc, others)? {
+        return Ok(false);
+    }
+    let mut other = Log::over(alloc, others)?;
+    are_alike(alloc, log, &mut other)
+}
+
+/// Whether the entries are a legal log.
+fn are_legal(alloc: Global, entries: &[Arc<Entry>]) -> Result<bool, AllocError>
+    ensures { IfOk result (λ legal. legal ≡ true → is_legal (map arc_value entries.now) ≡ true) }
+{
+    let mut judge = Judge::start(alloc);
+    for entry in entries {
+        match judge.fits(entry) {
+            Ok(()) => judge.take(entry)?,
+            Err(Refusal::Memory) => return Err(AllocError),
+            Err(_) => return Ok(false),
+        }
+    }
+    Ok(true)
+}
