@@ -5,8 +5,8 @@
 
 FOLDER is what tools/build_c_library.sh made: crates/pgp_c/out/c where none is given. The daemon is told scripts of examples/, with a
 question about each group behind each line, and takes a snapshot after each third line that its log took. What it answers has to be what
-`pgpeer run` writes for the whole script, byte for byte except for the count of entries. It is then killed at each call that changes a
-file or writes, by kill_at_write.c:
+`pgpeer run` writes for the whole script, except for the count of entries and past intervals that ended before `les`. It is then killed
+at each call that changes a file or writes, by kill_at_write.c:
 
   before  before the call
   half    after it; of a write, after half of the bytes
@@ -24,7 +24,6 @@ was wrong. Needs a C compiler, cc or $CC.
 import json
 import os
 import pathlib
-import re
 import subprocess
 import sys
 import tempfile
@@ -65,8 +64,13 @@ def with_questions(script):
     return [it for line in lines for it in ([line] if is_question(line) else [line, *asks])]
 
 
-def without_count(answers):
-    return [re.sub(rb'"count":\d+', b'"count":0', it) for it in answers]
+def alike(line):
+    """The answer without what a snapshot may change."""
+    answer = json.loads(line)
+    answer.pop("count", None)
+    if "les" in answer:
+        answer["intervals"] = [it for it in answer["intervals"] if it["last"] >= answer["les"]]
+    return answer
 
 
 class Script:
@@ -79,8 +83,8 @@ class Script:
         self.twice = [self.run([*self.lines[: at + 1], it])[-1] for at, it in enumerate(self.lines)]
 
     def run(self, lines):
-        ran = subprocess.run([self.program, "run"], input=b"\n".join(lines), capture_output=True, check=True, timeout=60)
-        return without_count(ran.stdout.splitlines(keepends=True))
+        ran = subprocess.run([self.program, "run", "--format", "3"], input=b"\n".join(lines), capture_output=True, check=True, timeout=60)
+        return [alike(it) for it in ran.stdout.splitlines()]
 
     def is_right(self, answers, begin, once_more=True):
         """Whether these are the answers to the lines from this one on, which is perhaps told once more."""
@@ -101,8 +105,8 @@ class Daemons:
         env = {**os.environ, "LD_PRELOAD": str(self.work / "kill.so"), "KILL": str(kill), "HOW": how, "COUNT_TO": str(self.work / "count")}
         words = [self.work / "daemon", self.file, str(EVERY)]
         ran = subprocess.run(words, input=b"\n".join(lines) + b"\n", capture_output=True, env=env, timeout=60)
-        answers = [it for it in ran.stdout.splitlines(keepends=True) if it.endswith(b"\n")]
-        return without_count(answers), ran.returncode, ran.stderr.decode()
+        answers = [alike(it) for it in ran.stdout.splitlines(keepends=True) if it.endswith(b"\n")]
+        return answers, ran.returncode, ran.stderr.decode()
 
     def count(self):
         """How many calls the last daemon made, which wasn't killed."""

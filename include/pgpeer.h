@@ -20,8 +20,9 @@
  * Anything else that is wrong has a status. The library takes memory by malloc, realloc and free.
  *
  * What takes long: pgp_open_lines, pgp_open_copy and pgp_compact_log read the whole log. So does the first question about a group
- * after one of them, and the first about each group works that out. bench/README.md has the times. A caller that can't wait does so
- * in a copy of the session, on another thread, tells the copy what came since, and goes on with that.
+ * after one of them, and the first about each group works that out. pgp_joined_lines works out all groups, several times.
+ * bench/README.md has the times. A caller that can't wait does so in a copy of the session, on another thread, tells the copy what
+ * came since, and goes on with that.
  */
 #ifndef PGPEER_H
 #define PGPEER_H
@@ -57,6 +58,7 @@ enum {
     PGP_ALREADY_OPEN = 4,   /* the session is open already, and stays as it was */
     PGP_BAD_ARGUMENT = 5,   /* a number is out of its range or a name is bad, and the session stays as it was */
     PGP_NO_LIST = 6,        /* pgp_missing_objects: there is no such list, and the session stays as it was */
+    PGP_NO_LINES = 7,       /* pgp_joined_lines: no such lines were found, and the session stays as it was */
 
     /* pgp_ask and the calls of lists */
     PGP_ASK_UNKNOWN_GROUP = 40,
@@ -298,6 +300,19 @@ uint32_t pgp_compact_log(pgp_session *session, size_t *left_out);
  * log took, in order, keeps those with a 1 before it calls pgp_compact_log. */
 uint32_t pgp_needed(pgp_session *session, uint8_t *room, size_t room_length, size_t *count);
 
+/* Lines that may stand for the session's log, each with a line feed: PGP_DONE, and they are put into the room as an answer is, at
+ * PGP_ROOM_TOO_SMALL as at PGP_DONE. They are the session's answer until its next line, so pgp_answer gives them again; its log stays.
+ *
+ * A session that is opened with them (pgp_open_lines, version 3) gives the answers of this one, whatever both are told from then on,
+ * except for three things: its count of entries, that it may have room where this one is full, and past intervals of a group that
+ * ended before its `les`. Its log is compacted, and incrementals between which nothing begins that an answer can tell apart are one.
+ * So a log that is written anew by this call now and then has no end, if members tell `history_les`. A caller that tells entries in
+ * structs keeps its log by this call.
+ *
+ * At PGP_NO_MEMORY, PGP_NOT_OPEN and PGP_NO_LINES *length is 0, and room and answer stay as they were. PGP_NO_LINES isn't known to
+ * come: what is written is read again, and this says that it didn't read as it should. */
+uint32_t pgp_joined_lines(pgp_session *session, uint8_t *room, size_t room_length, size_t *length);
+
 /* What a session knows without a group. */
 typedef struct pgp_log {
     size_t count;            /* how many entries its log has */
@@ -352,6 +367,7 @@ static inline const char *pgp_status_name(uint32_t status) {
     case PGP_ALREADY_OPEN: return "AlreadyOpen";
     case PGP_BAD_ARGUMENT: return "BadArgument";
     case PGP_NO_LIST: return "NoList";
+    case PGP_NO_LINES: return "NoLines";
     case PGP_EPOCH_GAP: return "EpochGap";
     case PGP_TWICE: return "Twice";
     case PGP_UNKNOWN_DEVICE: return "UnknownDevice";

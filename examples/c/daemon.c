@@ -7,9 +7,10 @@
  *     daemon FILE [EVERY]
  *
  * FILE has a line for each entry of the session's log, in order. A line that the log takes is in the file, and the file on the
- * disk, before its answer is printed. After each EVERY such lines (20,000 where nothing is said) it takes a snapshot: the lines that
- * answers still need are written to FILE.new, which then gets the name FILE. So FILE always has a whole log, which gives the answers
- * of all that was ever taken, except for the count of entries.
+ * disk, before its answer is printed. After each EVERY such lines (20,000 where nothing is said) it takes a snapshot: lines that may
+ * stand for the log are written to FILE.new, which then gets the name FILE. So the log has no end, if members tell `history_les`, and
+ * FILE always gives the answers of all that was ever taken, except for the count of entries, and for past intervals that ended before
+ * a group's `les`.
  *
  * It may be killed at any moment, and goes on from FILE when it is started again. Of a line without an answer nobody knows whether
  * it was taken: it is told once more. Told twice, an incremental is refused as EpochGap, and a report changes nothing but the count.
@@ -29,7 +30,7 @@
 
 #include "pgpeer.h"
 
-enum { FORMAT = 2, MODE = 0644, EVERY = 20000 };
+enum { FORMAT = 3, MODE = 0644, EVERY = 20000 };
 
 static pgp_session session = PGP_SESSION;
 static const char *path; /* FILE */
@@ -121,45 +122,40 @@ static void keep(uint8_t *line, size_t length) {
     entries++;
 }
 
-/* Leaves the lines of the text whose entries are needed, and gives their length. */
-static size_t leave_needed(uint8_t *text, size_t length, const uint8_t *needed, size_t *left) {
-    size_t kept = 0, at = 0;
-    *left = 0;
-    for (size_t more; (more = line_length(text + at, length - at)) > 0; at += more) {
-        if (!*needed++) continue;
-        memmove(text + kept, text + at, more);
-        kept += more;
-        ++*left;
-    }
-    return kept;
+/* Lines that may stand for the session's log. Where there is no memory for them, there are none. */
+static uint8_t *shorter_lines(size_t *length) {
+    uint8_t *room = room_for(0);
+    uint32_t status = pgp_joined_lines(&session, room, 0, length);
+    free(room);
+    if (status == PGP_NO_MEMORY) return NULL;
+    if (status != PGP_ROOM_TOO_SMALL) done(status);
+    room = room_for(*length);
+    done(pgp_answer(&session, room, *length, length));
+    return room;
 }
 
-/* Takes a snapshot. The session's log is compacted once all is written, and before FILE is another: where there is no memory for that,
- * both stay as they were. */
+/* Takes a snapshot, and goes on with a session of its lines. Where there is no memory for that, all stays as it was. */
 static void take_snapshot(void) {
-    size_t length, left, count, left_out;
-    uint8_t *needed = room_for(entries);
-    uint32_t status = pgp_needed(&session, needed, entries, &count);
+    pgp_session shorter = PGP_SESSION;
+    size_t length, refused;
+    uint8_t *text = shorter_lines(&length);
+    if (!text) return;
+    uint32_t status = pgp_open_lines(&shorter, FORMAT, text, length, &refused);
     if (status == PGP_DONE) {
-        uint8_t *text = read_file(&length);
         int new_file = made(open(new_path, O_RDWR | O_CREAT | O_TRUNC | O_APPEND, MODE));
-        write_all(new_file, text, leave_needed(text, length, needed, &left));
+        write_all(new_file, text, length);
         made(fsync(new_file));
-        free(text);
-        status = pgp_compact_log(&session, &left_out);
-        if (status == PGP_DONE) {
-            if (left + left_out != entries) fail("pgpeer", "it left out other entries than it said");
-            made(rename(new_path, path));
-            made(fsync(folder));
-            made(close(file));
-            file = new_file;
-            entries = left;
-        } else {
-            made(close(new_file));
-        }
+        made(rename(new_path, path));
+        made(fsync(folder));
+        made(close(file));
+        file = new_file;
+        done(pgp_close(&session));
+        session = shorter;
+        entries = what_the_log_is().count;
+    } else if (status != PGP_NO_MEMORY) {
+        done(status);
     }
-    free(needed);
-    if (status != PGP_NO_MEMORY) done(status);
+    free(text);
 }
 
 /* Tells the session a line, and prints its answer. Gives whether the log took it. Where the room is too small, the line was answered

@@ -4,11 +4,11 @@ use Rattle.std.specs.List.{count_by}
 use Rattle.std.proofs.lemmas.List.Sums.{sum_by-append}
 use Rattle.pgp_ids.specs.declared.entry.Entry.{Entry}
 use Rattle.pgp_lines.specs.declared.command.format.Format.{Format}
-use Rattle.pgp_core.specs.Added.{EntryLine, IsOutcome, added_by, entries_of_lines, entry_line, entry_lines, with_added}
+use Rattle.pgp_core.specs.Added.{IsOutcome, added_by, entries_of_lines, entry_lines, with_added}
 use Rattle.pgp_core.specs.Session.{LogAndAnswer}
 use Rattle.pgp_core.specs.declared.outcome.LineOutcome.{LineOutcome}
 use Rattle.pgp_core.specs.declared.outcome.LineOutcome.TheVariants.{Blank, Taken, Asked, Refused}
-use Rattle.pgp_core.proofs.AddedLemmas.{lines-cases}
+use Rattle.pgp_core.proofs.AddedLemmas.{past-line}
 use Rattle.pgp_c.specs.OpenLines.{AreOutcomes, HasReadLines, IsRefused, is_refusal}
 
 -- the log of all lines, where the log has these entries before them
@@ -26,15 +26,6 @@ pub record IsReadUpTo (was now : LogAndAnswer) (lines rest : List (List ℕ)) (r
 
 pub read-none : (was : LogAndAnswer) (lines : List (List ℕ)) → IsReadUpTo was was lines lines 0
 read-none was lines = record { log = refl; answer = refl; format = refl; done = []; count = refl; goes_on = λ more are. are }
-
-whole-step : (format : Format) (log : List Entry) (line : List ℕ) (lines : List (List ℕ))
-    → whole_log format (with_added log (added_by format log line)) lines ≡ whole_log format log (line ∷ lines)
-whole-step format log line lines =
-    let P : List EntryLine → Type 0 = λ l. whole_log format (with_added log (added_by format log line)) lines ≡ log ++ entries_of_lines l in
-    lines-cases format P log line lines
-    (λ none. ap (λ added. whole_log format (with_added log added) lines) none)
-    (λ entry adds. ap (λ added. whole_log format (with_added log added) lines) adds
-    ∙ append_assoc log (entry ∷ []) (entries_of_lines (entry_lines format (log ++ entry ∷ []) lines)))
 
 count-snoc : (done : List LineOutcome) (outcome : LineOutcome) → count_by is_refusal (done ++ outcome ∷ []) ≡ count_by is_refusal done + count_by is_refusal (outcome ∷ [])
 count-snoc done outcome = sum_by-append (λ it. cond (is_refusal it) 1 0) done (outcome ∷ [])
@@ -55,7 +46,7 @@ read-next was old new lines rest line flagged refused more before is log answer 
     let log_so : new.log ≡ with_added old.log (added_by was.format old.log line) = log ∙ ap (λ f. with_added old.log (added_by f old.log line)) before.format in
     let one : (if flagged then 1 else 0) ≡ count_by is_refusal (outcome ∷ []) = ap (λ b. if b then 1 else 0) is.refused_is ∙ sym (count-one outcome) in
     record {
-      log = ap (λ l. whole_log was.format l rest) log_so ∙ whole-step was.format old.log line rest ∙ before.log;
+      log = ap (λ l. whole_log was.format l rest) log_so ∙ sym (past-line was.format old.log line rest) ∙ before.log;
       answer = answer ∙ before.answer;
       format = format ∙ before.format;
       done = before.done ++ outcome ∷ [];

@@ -6,6 +6,7 @@ pub mod Ask
 pub mod Compact
 pub mod Submit
 pub mod Info
+pub mod JoinedLines
 pub mod Lists
 pub mod Member
 pub mod Objects

@@ -14,6 +14,7 @@ ghost use Rattle.pgp_c.specs.Compact.{Compacts};
 ghost use Rattle.pgp_c.specs.Copy.{OpensCopy};
 ghost use Rattle.pgp_c.specs.Exports.{Opens, Closes, Tells, Repeats, session_format};
 ghost use Rattle.pgp_c.specs.Info.{Submits};
+ghost use Rattle.pgp_c.specs.JoinedLines.{Joins};
 ghost use Rattle.pgp_c.specs.Lists.{Lists, pgp_device, interval_of, member_of, peer_of};
 ghost use Rattle.pgp_c.specs.Locate.{Locates};
 ghost use Rattle.pgp_c.specs.Log.{AsksLog};
@@ -29,6 +30,7 @@ mod copy;
 mod each;
 mod held_session;
 mod info;
+mod joined_lines;
 mod lists;
 mod locate;
 mod log;
@@ -48,6 +50,7 @@ use compact::compact_log;
 use copy::open_copy;
 use each::put_each;
 use info::{PgpInfo, member_of, submit_info};
+use joined_lines::put_joined_lines;
 use lists::{PgpInterval, PgpMember, PgpPeer};
 use locate::locate;
 use log::{PgpLog, log_of};
@@ -295,6 +298,25 @@ pub extern "C" fn pgp_needed(
         return Status::NotOpen.number();
     };
     let status = put_needed(alloc, &opened, room, count);
+    session.put(opened);
+    status
+}
+
+/// Has the session answer with lines that may stand for its log, as with the answer to a line.
+#[unsafe(no_mangle)]
+pub extern "C" fn pgp_joined_lines(
+    alloc: Global,
+    session: &mut PgpSession,
+    room: &mut [u8],
+    length: &mut usize,
+) -> u32
+    ensures { Joins session.old.held.session session.new.held.session room.old room.new length.new result }
+{
+    *length = 0;
+    let Some(mut opened) = session.take(alloc) else {
+        return Status::NotOpen.number();
+    };
+    let status = put_joined_lines(alloc, &mut opened, room, length);
     session.put(opened);
     status
 }

@@ -20,6 +20,8 @@ pub enum Status {
     BadArgument,
     /// No list of the objects that the member lacks is known.
     NoList,
+    /// No lines were found that may stand for the log.
+    NoLines,
 }
 
 impl Status {
@@ -35,6 +37,7 @@ impl Status {
             Status::AlreadyOpen => 4,
             Status::BadArgument => 5,
             Status::NoList => 6,
+            Status::NoLines => 7,
         }
     }
 }

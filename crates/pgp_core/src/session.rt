@@ -143,6 +143,16 @@ impl Session {
         }
     }
 
+    /// Has this text for its answer, until the next line.
+    pub fn answer_with(&mut self, text: Vec<u8>)
+        ensures answer { self.new.answer ≡ text.items }
+        ensures log { self.new.log ≡ self.old.log }
+        ensures format { self.new.format ≡ self.old.format }
+    {
+        self.text = text;
+        self.last = LastAnswer::Written;
+    }
+
     /// Where the object of this name lies, by the map that the entries make. It takes no memory.
     #[tactic(auto, unfolding(crate::specs::Session::reply_in))]
     pub fn locate(&mut self, id: PoolId, name: &ObjectName) -> Reply

@@ -209,6 +209,38 @@ static void remains(void) {
     CHECK(MADE(pgp_needed(&session, room, 8, &count)) == PGP_DONE && count == 6 && memcmp(room, "\1\1\1\1\1\1\1\7", 8) == 0);
 }
 
+// Lines that may stand for a log give a session that says the same of the group, with fewer entries.
+static void joined(void) {
+    static const char *const flaps[] = {
+        "{\"op\":\"inc\",\"epoch\":1,\"up\":[0,1],\"temp\":[[1,0,[0]]],\"pools\":[{\"id\":1,\"pg_num\":1,\"kind\":\"replicated\",\"size\":2,\"min_size\":1,\"leaf\":0}]}",
+        "{\"op\":\"entries\",\"pg\":[1,0],\"from\":[0,0],\"stamp\":1,\"log\":[[1,1,\"modify\",\"a\\u0001\\\"\\u00e4\"]]}",
+        "{\"op\":\"inc\",\"epoch\":2,\"down\":[1]}", "{\"op\":\"inc\",\"epoch\":3,\"up\":[1]}",
+        "{\"op\":\"inc\",\"epoch\":4,\"down\":[1]}", "{\"op\":\"inc\",\"epoch\":5,\"up\":[1]}",
+        "{\"op\":\"info\",\"pg\":[1,0],\"from\":[0,0],\"stamp\":5,\"les\":5,\"history_les\":5,\"last_epoch_clean\":5,\"last_update\":[1,1],\"log_tail\":[0,0],\"complete\":true}",
+        "{\"op\":\"inc\",\"epoch\":6,\"up_thru\":[[0,6]]}", "{\"op\":\"inc\",\"epoch\":7}", "{\"op\":\"close\"}"};
+    static uint8_t room[4096], again[4096];
+    pgp_session long_one = PGP_SESSION, short_one = PGP_SESSION;
+    size_t length = 99, other = 99, refused = 99;
+    pgp_log before, after;
+    pgp_view view, shown;
+    CHECK(pgp_joined_lines(&long_one, room, sizeof room, &length) == PGP_NOT_OPEN && length == 0);
+    CHECK(MADE(pgp_open(&long_one)) == PGP_DONE);
+    for (size_t at = 0; at < sizeof flaps / sizeof *flaps; at++) {
+        CHECK(MADE(pgp_line(&long_one, (const uint8_t *)flaps[at], strlen(flaps[at]), room, sizeof room, &length)) == PGP_DONE);
+        CHECK(length > 7 && memcmp(room, "{\"count\"", 8) == 0);
+    }
+    CHECK(MADE(pgp_joined_lines(&long_one, room, 1, &length)) == PGP_ROOM_TOO_SMALL && length > 1);
+    CHECK(MADE(pgp_joined_lines(&long_one, room, sizeof room, &length)) == PGP_DONE && room[length - 1] == '\n');
+    CHECK(pgp_answer(&long_one, again, sizeof again, &other) == PGP_DONE && other == length && memcmp(room, again, length) == 0);
+    CHECK(MADE(pgp_open_lines(&short_one, 3, room, length, &refused)) == PGP_DONE && refused == 0);
+    CHECK(pgp_ask_log(&long_one, &before) == PGP_DONE && pgp_ask_log(&short_one, &after) == PGP_DONE);
+    CHECK(before.count == 10 && after.count < 8 && after.epoch == 7);
+    CHECK(MADE(pgp_ask(&long_one, 1, 0, &view)) == PGP_DONE && MADE(pgp_ask(&short_one, 1, 0, &shown)) == PGP_DONE);
+    CHECK(shown.verdict == view.verdict && shown.first == view.first && shown.les == view.les && shown.best_osd == view.best_osd);
+    CHECK(MADE(pgp_submit_close(&short_one)) == PGP_CLOSED);
+    CHECK(pgp_close(&long_one) == PGP_DONE && pgp_close(&short_one) == PGP_DONE);
+}
+
 // A session that begins with lines, and one that begins as its copy and then goes its own way.
 static void begun(void) {
     static const char text[] = "{\"op\":\"inc\",\"epoch\":1,\"up\":[0]}\n\n{\"op\":\"ask\",\"pg\":[1,0]}\nno line\n{\"op\":\"inc\",\"epoch\":3}\n{\"op\":\"close\"}";
@@ -346,6 +378,7 @@ static void all(void) {
     compaction();
     long_names();
     begun();
+    joined();
     CHECK(pgp_close(&session) == PGP_DONE);
     CHECK(MADE(pgp_open(&session)) == PGP_DONE);
     outage();
