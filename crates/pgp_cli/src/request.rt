@@ -1,5 +1,6 @@
 //! What the words of a command line ask for.
-ghost use Rattle.std.specs.Prelude.{◌≤◌, IfSome};
+ghost use Rattle.std.specs.Prelude.{◌≡◌, ◌≤◌, IfSome, None, Some};
+ghost use Rattle.pgp_lines.specs.declared.command.format.Format.TheVariants.{Two};
 
 use super::commands::{compact_error, explain_error, parse, run_error};
 use clap::error::ErrorKind;
@@ -144,7 +145,9 @@ fn count(text: Option<&str>, least: u8) -> Option<u8>
 }
 
 /// The version that `--format` names, or 2.
-fn format(text: Option<&str>) -> Option<Format> {
+fn format(text: Option<&str>) -> Option<Format>
+    ensures { text.entry ≡ None → result ≡ Some Two }
+{
     let Some(text) = text else {
         return Some(Format::Two);
     };
