@@ -23,7 +23,6 @@ In this order, each part with its count and its seconds:
   followers of one log              three followers over three nodes of etcd answer as the program does on the lines of the log, while
                                     one of each is killed (follow/checks/many.py)
   followers that join               the same, with --format 3
-  a log without end                 two followers take more maps than a log does (follow/checks/endless.py)
   a follower that is cut off        what it answers without the others, by network namespaces (follow/checks/partition.py)
   a follower by TLS                 who is let in, with certificates and users of etcd (follow/checks/secured.py)
   a Ceph cluster                    nine devices go through an outage, as fetch and record keep it, and come back as plan says
@@ -234,7 +233,6 @@ def after_gate(seed: str) -> List[Part]:
         Part(f"joins, seed {seed}", join, 400, compactions),
         Part("followers of one log", follow, 900, tried_and_wrong, ("etcd",)),
         Part("followers that join", [*follow, "--format", "3"], 900, tried_and_wrong, ("etcd",)),
-        Part("a log without end", python("follow/checks/endless.py", "--seed", seed), 900, tried_and_wrong, ("etcd",)),
         Part("a follower that is cut off", cut_off, 300, tried_and_wrong, ("etcd", "ip")),
         Part("a follower by TLS", secured, 200, tried_and_wrong, ("etcd", "etcdctl", "openssl")),
         Part("a Ceph cluster", cluster, 1200, states_of_groups, ("ceph", "ceph-mon", "ceph-osd", "ceph-mgr", "crushtool", "osdmaptool")),
