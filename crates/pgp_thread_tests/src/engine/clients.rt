@@ -1,69 +1,58 @@
 //! Where clients find objects.
 use crate::count::is_count;
 use crate::engine::desk::Desk;
-use crate::engine::lines::{EMPTY_0, MAP, PLACE};
-use crate::engine::opened::{Row, Trial, all_tried};
-use crate::engine::steps::{is_placed, sought};
-use pgp_engine::{Client, Naming};
-use std::cmp::Ordering;
-use std::process::Abort;
-use std::sync::Wait;
+use crate::engine::lines::{EMPTY_0, MAP, group};
+use crate::engine::opened::{Host, Trial, tried};
+use pgp_engine::{Client, LocateFault, Naming, Place};
+use pgp_ids::ObjectName;
 
-// The client doesn't place the object, with the fault of this number.
-fn finds_none<J: Naming, R: Abort + AllocGlobal>(rt: &R, client: &mut Client<J>, number: u8) {
-    let (pool, name) = sought(rt);
-    let fault = client.locate(pool, &name).err().expect(rt, "no place");
-    assert_eq!(rt; fault.number(), number);
+// Where the client finds an object of the group's pool.
+fn located<J: Naming>(rt: &impl Host, client: &mut Client<J>) -> Result<Place, LocateFault> {
+    let name = match ObjectName::new(rt.alloc(), "a") {
+        Ok(name) => name,
+        Err(_) => ObjectName::new(rt.alloc(), "a").ok().expect(rt, "memory"),
+    };
+    client.locate(group().pool, &name.expect(rt, "a name"))
 }
 
-pub fn place_by_two<J: Naming, R: Wait + Abort + AllocGlobal>(
-    rt: &R,
-    desk: &Desk<J>,
-    one: &mut Client<J>,
-    other: &mut Client<J>,
-) {
-    finds_none(rt, one, 42);
-    desk.put_all(rt, &[MAP]);
-    let seen = other.newest();
-    is_count(rt, seen.len(), 1);
-    one.learn(&seen);
-    is_count(rt, is_placed(rt, one, PLACE).len(), 1);
+/// The client places the object by a front of this many entries. It is asked a second time where it is out of memory.
+pub fn is_placed<J: Naming>(rt: &impl Host, client: &mut Client<J>, count: usize) {
+    let place = match located(rt, client) {
+        Err(LocateFault::Memory) => located(rt, client),
+        located => located,
+    };
+    is_count(rt, place.ok().expect(rt, "a place").at.len(), count);
+}
+
+// The client is lent no copy of the log.
+fn is_lost<J: Naming>(rt: &impl Host, client: &mut Client<J>) {
+    let place = located(rt, client);
+    assert!(rt;
+        matches!(place, Err(LocateFault::NoReader)),
+        "no copy is lent"
+    );
 }
 
 // One client has read the map when the engine ends, the other knows of it alone. An info came after it. The first places by
 // what it has read, until it learns of the info.
-pub fn outlive<J: Naming, R: Wait + Abort + AllocGlobal>(
-    rt: &R,
-    desk: Desk<J>,
-    one: &mut Client<J>,
-    other: &mut Client<J>,
-) {
-    let map = desk.put_all(rt, &[MAP]);
-    is_placed(rt, one, PLACE);
-    is_count(rt, other.newest().len(), map.len());
-    let told = desk.put(rt, EMPTY_0, &map);
+pub fn outlive<J: Naming>(rt: &impl Host, desk: Desk<J>, clients: Vec<Client<J>>) {
+    let mut clients = clients;
+    let mut one = clients.pop().expect(rt, "a client");
+    let mut other = clients.pop().expect(rt, "two clients");
+    desk.put(rt, MAP);
+    is_placed(rt, &mut one, 1);
+    is_count(rt, other.newest().len(), 1);
+    desk.put(rt, EMPTY_0);
+    let told = desk.engine.told(rt);
     desk.end(rt);
-    is_count(rt, one.newest().len(), map.len());
-    is_placed(rt, one, PLACE);
-    finds_none(rt, other, 52);
-    is_count(rt, other.newest().len(), map.len());
-    one.learn(&told.receipt);
-    is_count(rt, one.newest().len(), told.len());
-    finds_none(rt, one, 52);
-    let newest = one.newest();
-    assert!(rt; one.meet(&newest, &told.receipt) == Ordering::Equal);
-    assert!(rt; one.meet(&map.receipt, &newest) == Ordering::Less);
+    is_placed(rt, &mut one, 1);
+    is_lost(rt, &mut other);
+    one.learn(&told);
+    is_lost(rt, &mut one);
+    is_count(rt, one.newest().len(), 2);
 }
-
-static TRIALS: [Row; 2] = [
-    Row(
-        "a client places by what another has seen",
-        Trial::TwoClients,
-    ),
-    Row("a client keeps its front after the end", Trial::Outlived),
-];
 
 #[test]
 fn a_client_places_by_the_front_that_it_knows(rt: HostRuntime) {
-    all_tried(&rt, &TRIALS);
+    tried(&rt, &Trial::Outlived);
 }

@@ -1,97 +1,67 @@
-//! The engine of a test, which is asked by tickets.
+//! The engine of a test. A front of its log is given by how many entries it has.
 ghost use Rattle.std.specs.Prelude.{◌≡◌, ◌<◌};
 ghost use Rattle.pgp_thread_tests.specs.declared.engine.opened.TheConstants.{SHARDS};
 
 use crate::count::is_count;
-use crate::engine::lines::group;
-use crate::engine::opened::SHARDS;
-use crate::lines::given;
-use crate::ticket::Ticket;
-use pgp_engine::{Engine, Gate, Naming, SubmitFault};
-use pgp_ids::{Refusal, View};
-use std::process::Abort;
+use crate::engine::lines::{given, group};
+use crate::engine::opened::{Host, SHARDS};
+use pgp_engine::{AskFault, Engine, Gate, Naming, SubmitFault};
 use std::sync::Wait;
 
-/// An engine of two shards.
+/// An engine of two shards. Each call is made a second time where it is out of memory.
 pub struct Desk<J: Naming> {
     pub engine: Engine<J>,
     pub workers: usize,
     ghost sizes: { engine ≡ record { shards = SHARDS; workers = workers } },
 }
 
-/// What a submit is answered: the front with the entry, or why one doesn't take it, and which.
-pub type Outcome<J> = Result<Ticket<J>, (Refusal, Ticket<J>)>;
-
 impl<J: Naming> Desk<J> {
-    /// A ticket for the whole log.
-    pub fn ticket<R: Wait>(&self, rt: &R) -> Ticket<J> {
-        Ticket::over(self.engine.told(rt))
+    /// How many entries the log has.
+    pub fn len(&self, rt: &impl Wait) -> usize {
+        self.engine.told(rt).len()
     }
 
-    /// Submits the entry that the line is.
-    pub fn submit<R: Wait + Abort + AllocGlobal>(
-        &self,
-        rt: &R,
-        line: &str,
-        known: &Ticket<J>,
-    ) -> Outcome<J> {
-        match self.engine.submit(rt, given(rt, line), &known.receipt) {
-            Ok(receipt) => Ok(Ticket::over(receipt)),
-            Err(SubmitFault::Refused { why, at }) => Err((why, Ticket::over(at))),
-            Err(_) => panic!(rt; "taken or refused"),
-        }
+    /// Submits the entry that the line is, by the whole log, and says how many entries the log has with it. Out of memory, the
+    /// log is as it was.
+    pub fn put(&self, rt: &impl Host, line: &str) -> usize {
+        let told = self.engine.told(rt);
+        let submitted = match self.engine.submit(rt, given(rt, line), &told) {
+            Err(SubmitFault::Memory) => {
+                is_count(rt, self.len(rt), told.len());
+                self.engine.submit(rt, given(rt, line), &told)
+            }
+            submitted => submitted,
+        };
+        submitted.ok().expect(rt, "taken").len()
     }
 
-    /// The same of an entry that is taken.
-    pub fn put<R: Wait + Abort + AllocGlobal>(
-        &self,
-        rt: &R,
-        line: &str,
-        known: &Ticket<J>,
-    ) -> Ticket<J> {
-        self.submit(rt, line, known).ok().expect(rt, "taken")
+    /// By how many entries the group is answered, of which the caller knows none.
+    pub fn ask(&self, rt: &impl Host) -> usize {
+        let none = self.engine.told(rt).front(0);
+        let answer = match self.engine.ask(rt, group(), &none) {
+            Err(AskFault::Memory) => self.engine.ask(rt, group(), &none),
+            answered => answered,
+        };
+        answer.ok().expect(rt, "an answer").at.len()
     }
 
-    /// Submits all of them, each by the front with the one before it.
-    pub fn put_all<R: Wait + Abort + AllocGlobal>(&self, rt: &R, lines: &[&str]) -> Ticket<J> {
-        let mut told = self.ticket(rt);
-        for line in lines {
-            told = self.put(rt, line, &told);
-        }
-        told
-    }
-
-    /// What is answered of the group, by a front with as many entries as the view counts.
-    pub fn ask<R: Wait + Abort>(&self, rt: &R, known: &Ticket<J>) -> View {
-        let answer = self.engine.ask(rt, group(), &known.receipt);
-        let answer = answer.ok().expect(rt, "an answer");
-        is_count(rt, answer.view.count, answer.at.len());
-        answer.view
-    }
-
-    /// How many entries the front has by which the group is answered.
-    pub fn len_of_answer<R: Wait + Abort>(&self, rt: &R, known: &Ticket<J>) -> usize {
-        self.ask(rt, known).count
-    }
-
-    /// Lets one of the two shards read on.
-    pub fn read_on<R: Wait + Abort>(&self, rt: &R, shard: usize, max: usize) -> Ticket<J>
+    /// Lets one of the two shards read on, and says how many entries it has read.
+    pub fn read_on(&self, rt: &impl Host, shard: usize, max: usize) -> usize
         requires { shard < SHARDS }
     {
-        let read = self.engine.absorb_some(rt, shard, max);
-        Ticket::over(read.ok().expect(rt, "read"))
+        let read = match self.engine.absorb_some(rt, shard, max) {
+            Err(AskFault::Memory) => self.engine.absorb_some(rt, shard, max),
+            read => read,
+        };
+        read.ok().expect(rt, "read").len()
     }
 
-    /// Serves the shards of a seat until they have read a Close. It has none: there is no ticket.
-    pub fn work<R: Wait + Abort, G: Gate>(
-        &self,
-        rt: &R,
-        seat: usize,
-        gate: &G,
-    ) -> Option<Ticket<J>> {
+    /// Serves the shards of a seat until they have read a Close, and says how many entries they have read then. It has none:
+    /// there is no such number.
+    pub fn work<G: Gate>(&self, rt: &impl Host, seat: usize, gate: &G) -> Option<usize> {
         assert!(rt; seat < self.workers, "a seat");
         match self.engine.work(rt, seat, gate) {
-            Ok(Some(receipt)) => Some(Ticket::over(receipt)),
+            Ok(Some(receipt)) => Some(receipt.len()),
             Ok(None) => None,
             Err(_) => panic!(rt; "no fault"),
         }

@@ -1,19 +1,18 @@
 //! The gate at which a test holds workers, and how a thread waits for another, for a number of turns and no more.
-use crate::engine::opened::SHARDS;
 use pgp_engine::Gate;
 use std::process::Abort;
 use std::sync::Wait;
-use std::sync::atomic::{AtomicBool, Ordering};
+use std::sync::atomic::{AtomicUsize, Ordering};
 use std::thread;
 use std::time::{Clock, Duration};
 
 /// How many turns a thread waits at most. A turn is one look and a short sleep.
 pub const TURNS: u32 = 100_000;
 
-// Waits until the flag is raised.
-fn wait_for<R: Abort + Clock>(rt: &R, flag: &AtomicBool) {
+// Waits until as many were counted.
+fn wait_for<R: Abort + Clock>(rt: &R, counted: &AtomicUsize, least: usize) {
     for _ in 0..TURNS {
-        if flag.load(Ordering::SeqCst) {
+        if counted.load(Ordering::SeqCst) >= least {
             return;
         }
         thread::sleep(rt, Duration::from_micros(10));
@@ -21,12 +20,12 @@ fn wait_for<R: Abort + Clock>(rt: &R, flag: &AtomicBool) {
     panic!(rt; "what a thread waits for comes")
 }
 
-/// Holds the workers of some shards, or of both, until it is opened.
+/// Holds the workers of the first shard, of both or of none, until it is opened.
 pub struct HoldingGate<R: Abort + Clock> {
-    pub rt: R,
-    pub holds: [bool; SHARDS],
-    pub reached: [AtomicBool; SHARDS],
-    pub opened: AtomicBool,
+    rt: R,
+    holds: usize,
+    held: AtomicUsize,
+    opened: AtomicUsize,
 }
 
 // Written out, so that a function which lets one go has nothing to prove of what lies within.
@@ -35,32 +34,38 @@ impl<R: Abort + Clock + Drop> Drop for HoldingGate<R> {
         let HoldingGate {
             rt: _,
             holds: _,
-            reached: _,
+            held: _,
             opened: _,
         } = self;
     }
 }
 
 impl<R: Abort + Clock> HoldingGate<R> {
-    /// Waits until the shards that it holds are held, all at once.
-    pub fn fills(&self) {
-        for (holds, reached) in self.holds.iter().zip(self.reached.iter()) {
-            if *holds {
-                wait_for(&self.rt, reached);
-            }
+    /// A gate that holds the workers of so many shards.
+    pub fn new(rt: R, holds: usize) -> Self {
+        HoldingGate {
+            rt,
+            holds,
+            held: AtomicUsize::new(0),
+            opened: AtomicUsize::new(0),
         }
     }
 
+    /// Waits until the shards that it holds are held, all at once.
+    pub fn fills(&self) {
+        wait_for(&self.rt, &self.held, self.holds);
+    }
+
     pub fn open(&self) {
-        self.opened.store(true, Ordering::SeqCst);
+        self.opened.store(1, Ordering::SeqCst);
     }
 }
 
 impl<R: Abort + Clock> Gate for HoldingGate<R> {
     fn enter<W: Wait>(&self, _rt: &W, shard: usize) {
-        if shard < SHARDS && self.holds[shard] {
-            self.reached[shard].store(true, Ordering::SeqCst);
-            wait_for(&self.rt, &self.opened);
+        if shard < self.holds {
+            let _before = self.held.fetch_add(1, Ordering::SeqCst);
+            wait_for(&self.rt, &self.opened, 1);
         }
     }
 

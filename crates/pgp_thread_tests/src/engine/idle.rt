@@ -7,14 +7,14 @@ use crate::count::is_count;
 use crate::engine::desk::Desk;
 use crate::engine::gates::TURNS;
 use crate::engine::lines::{CLOSE, EMPTY_0, MAP};
-use crate::engine::opened::{Row, SHARDS, Trial, all_tried};
+use crate::engine::opened::{Host, SHARDS, Trial, tried};
 use pgp_engine::{Gate, Naming, Open};
 use pgp_fixtures::MANY_GROUPS;
 use std::process::Abort;
 use std::sync::Wait;
 use std::sync::atomic::{AtomicUsize, Ordering};
 use std::thread;
-use std::thread::{Threads, join};
+use std::thread::join;
 use std::time::{Clock, Duration};
 
 /// After how many rounds without an entry a lull begins.
@@ -63,13 +63,10 @@ impl CountingGate {
 
 /// One worker serves both shards, of which the first has worked out all of its groups before. Once it has taken the turns that
 /// are needed, though nothing is submitted after the map, the log is closed.
-pub fn work_out<J: Naming + Send + Sync, R: Threads + Wait + Abort + Clock + AllocGlobal + Sync>(
-    rt: &R,
-    desk: &Desk<J>,
-) {
-    desk.put_all(rt, &[MANY_GROUPS]);
+pub fn work_out<J: Naming + Send + Sync, R: Host>(rt: &R, desk: &Desk<J>) {
+    desk.put(rt, MANY_GROUPS);
     for _ in 0..2 {
-        is_count(rt, desk.read_on(rt, 0, GROUPS).len(), 1);
+        is_count(rt, desk.read_on(rt, 0, GROUPS), 1);
     }
     let gate = CountingGate {
         over: AtomicUsize::new(0),
@@ -79,47 +76,30 @@ pub fn work_out<J: Naming + Send + Sync, R: Threads + Wait + Abort + Clock + All
         || desk.work(rt, 0, &gate),
         || {
             gate.wait(rt);
-            desk.put_all(rt, &[CLOSE])
+            desk.put(rt, CLOSE)
         },
     );
-    is_count(rt, end.expect(rt, "a shard").len(), closed.len());
+    is_count(rt, end.expect(rt, "a shard"), closed);
 }
 
 /// The log is closed, and one shard has read it. The worker of both ends once the other has read it too.
-pub fn end_last<J: Naming, R: Wait + Abort + AllocGlobal>(rt: &R, desk: &Desk<J>, ahead: usize)
+pub fn end_last<J: Naming>(rt: &impl Host, desk: &Desk<J>, ahead: usize)
     requires { ahead < SHARDS }
 {
-    let mut told = desk.put_all(rt, &[MAP]);
+    desk.put(rt, MAP);
     for _ in 0..INFOS {
-        told = desk.put(rt, EMPTY_0, &told);
+        desk.put(rt, EMPTY_0);
     }
-    let closed = desk.put(rt, CLOSE, &told).len();
-    is_count(rt, desk.read_on(rt, ahead, closed).len(), closed);
-    is_count(
-        rt,
-        desk.work(rt, 0, &Open).expect(rt, "a shard").len(),
-        closed,
-    );
-    is_count(rt, desk.read_on(rt, 0, 0).len(), closed);
-    is_count(rt, desk.read_on(rt, 1, 0).len(), closed);
+    let closed = desk.put(rt, CLOSE);
+    is_count(rt, desk.read_on(rt, ahead, closed), closed);
+    is_count(rt, desk.work(rt, 0, &Open).expect(rt, "a shard"), closed);
+    is_count(rt, desk.read_on(rt, 0, 0), closed);
+    is_count(rt, desk.read_on(rt, 1, 0), closed);
 }
-
-static TRIALS: [Row; 3] = [
-    Row(
-        "a worker ends once the second shard has read too",
-        Trial::FirstAhead,
-    ),
-    Row(
-        "a worker ends once the first shard has read too",
-        Trial::SecondAhead,
-    ),
-    Row(
-        "a worker works out all groups before it sleeps",
-        Trial::WorksOut,
-    ),
-];
 
 #[test]
 fn a_worker_works_out_all_groups_before_it_sleeps(rt: HostRuntime) {
-    all_tried(&rt, &TRIALS);
+    tried(&rt, &Trial::FirstAhead);
+    tried(&rt, &Trial::SecondAhead);
+    tried(&rt, &Trial::WorksOut);
 }

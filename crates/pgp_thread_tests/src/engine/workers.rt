@@ -1,100 +1,119 @@
 //! What workers do, each on a thread of its own, while one more thread does something else and then closes the log.
 use crate::count::is_count;
+use crate::engine::clients::is_placed;
 use crate::engine::desk::Desk;
 use crate::engine::gates::{HoldingGate, TURNS};
-use crate::engine::holds::{ask_past, open_both, place_past};
-use crate::engine::lines::{CLOSE, MAP};
-use crate::engine::sleeps::{submit_and_close, wake_each};
-use crate::ticket::Ticket;
+use crate::engine::lines::{CLOSE, EMPTY_0, MAP};
+use crate::engine::opened::{Host, SHARDS, Trial, tried};
 use pgp_engine::{Client, Naming, Open};
-use std::process::Abort;
-use std::sync::atomic::AtomicBool;
-use std::sync::{Mutex, Wait};
+use std::sync::Mutex;
 use std::thread;
-use std::thread::{Threads, map_indices};
-use std::time::{Clock, Duration};
+use std::thread::map_indices;
+use std::time::Duration;
 
 /// What is done beside two workers.
 pub enum Beside {
-    /// The first of two shards is held meanwhile.
-    HeldShard,
-    /// Both shards are.
-    BothAtOnce,
-    ClientPasses,
-    /// Neither is.
-    Submits,
+    /// The worker of the first shard is held meanwhile.
+    FirstHeld,
+    /// Both are, each under its own shard's lock.
+    BothHeld,
     EachWoken,
-    /// A third worker over two shards ends while the first shard is held.
-    Idle,
 }
 
-// The third worker has no shard and ends. The gate holds the first one until then, and ends the test where that takes long.
-fn end_beside<J: Naming, R: Wait + Abort + Clock>(rt: &R, desk: &Desk<J>, gate: &HoldingGate<R>) {
+// A worker without a shard ends, and the second shard answers by what was submitted after the first was held.
+fn ask_past<J: Naming, R: Host>(rt: &R, desk: &Desk<J>, gate: &HoldingGate<R>) {
     gate.fills();
-    assert!(rt; desk.work(rt, 2, &Open).is_none(), "it has no shard");
+    assert!(rt; desk.work(rt, SHARDS, &Open).is_none(), "it has no shard");
+    is_count(rt, desk.put(rt, EMPTY_0), 2);
+    is_count(rt, desk.ask(rt), 2);
     gate.open();
 }
 
-// Does it, closes the log, and says by which front.
-fn done<J: Naming + Send + Sync, R: Threads + Wait + Abort + Clock + AllocGlobal + Sync>(
+// A client places by what was submitted after both were held. Then both read on by themselves.
+fn place_past<J: Naming, R: Host>(
+    rt: &R,
+    desk: &Desk<J>,
+    gate: &HoldingGate<R>,
+    clients: &Mutex<Vec<Client<J>>>,
+) {
+    gate.fills();
+    is_count(rt, desk.put(rt, EMPTY_0), 2);
+    let mut turn = clients.lock(rt);
+    let mut client = turn.pop().expect(rt, "a client");
+    is_placed(rt, &mut client, 2);
+    gate.open();
+    wait_until_read(rt, desk, 2);
+}
+
+/// How many infos are submitted, each to workers that sleep.
+const INFOS: usize = 10;
+
+// Both shards read each info by themselves, though the workers had time to fall asleep before it. No gate forces it that they
+// sleep: thirty milliseconds are ample for a lull to begin, and for them to find that there is nothing to do.
+fn wake_each<J: Naming>(rt: &impl Host, desk: &Desk<J>) {
+    wait_until_read(rt, desk, 1);
+    for _ in 0..INFOS {
+        thread::sleep(rt, Duration::from_millis(30));
+        let count = desk.put(rt, EMPTY_0);
+        wait_until_read(rt, desk, count);
+    }
+}
+
+// Waits until both shards have read this many entries by themselves.
+fn wait_until_read<J: Naming>(rt: &impl Host, desk: &Desk<J>, count: usize) {
+    for _ in 0..TURNS {
+        if desk.read_on(rt, 0, 0) >= count && desk.read_on(rt, 1, 0) >= count {
+            return;
+        }
+        thread::sleep(rt, Duration::from_micros(10));
+    }
+    panic!(rt; "the workers read on by themselves")
+}
+
+/// Does it beside two workers, which serve until the log is closed.
+pub fn work_beside<J: Naming + Send + Sync, R: Host>(
     rt: &R,
     beside: &Beside,
     desk: &Desk<J>,
-    gate: &HoldingGate<R>,
-    map: &Ticket<J>,
-    client: &Mutex<Client<J>>,
-) -> Ticket<J> {
-    match beside {
-        Beside::HeldShard => ask_past(rt, desk, gate, map),
-        Beside::BothAtOnce => open_both(rt, desk, gate, map),
-        Beside::ClientPasses => place_past(rt, desk, gate, map, client),
-        Beside::Submits => return submit_and_close(rt, desk, map),
-        Beside::EachWoken => wake_each(rt, desk, map),
-        Beside::Idle => end_beside(rt, desk, gate),
-    }
-    desk.put_all(rt, &[CLOSE])
-}
-
-/// Does it beside two workers, which serve until the log is closed. Both end by the front with the Close, and so does an ask.
-pub fn work_beside<
-    J: Naming + Send + Sync,
-    R: Threads + Wait + Abort + Clock + AllocGlobal + Sync + Copy + Drop,
->(rt: &R, beside: &Beside, desk: &Desk<J>, client: &Mutex<Client<J>>) {
-    let map = &desk.put_all(rt, &[MAP]);
-    let both = matches!(beside, Beside::BothAtOnce | Beside::ClientPasses);
-    let first = both || matches!(beside, Beside::HeldShard | Beside::Idle);
-    let gate = &HoldingGate {
-        rt: *rt,
-        holds: [first, both],
-        reached: [AtomicBool::new(false), AtomicBool::new(false)],
-        opened: AtomicBool::new(false),
+    clients: Vec<Client<J>>,
+) {
+    desk.put(rt, MAP);
+    let clients = &Mutex::new(clients);
+    let holds = match beside {
+        Beside::FirstHeld => 1,
+        Beside::BothHeld => 2,
+        Beside::EachWoken => 0,
     };
+    let gate = &HoldingGate::new(*rt, holds);
     let ends = map_indices(
         rt,
         rt.alloc(),
         3,
         &|place| {
             if place < 2 {
-                desk.work(rt, place, gate).expect(rt, "a shard").len()
-            } else {
-                done(rt, beside, desk, gate, map, client).len()
+                return desk.work(rt, place, gate);
             }
+            match beside {
+                Beside::FirstHeld => ask_past(rt, desk, gate),
+                Beside::BothHeld => place_past(rt, desk, gate, clients),
+                Beside::EachWoken => wake_each(rt, desk),
+            }
+            Some(desk.put(rt, CLOSE))
         },
     );
-    let closed = desk.ticket(rt).len();
+    let closed = desk.len(rt);
     for end in ends.ok().expect(rt, "memory") {
-        is_count(rt, end, closed);
+        assert!(rt; end == Some(closed), "a worker reads up to the Close");
     }
-    is_count(rt, desk.len_of_answer(rt, map), closed);
 }
 
-/// Waits until both shards have read this many entries by themselves.
-pub fn wait_until_read<J: Naming, R: Wait + Abort + Clock>(rt: &R, desk: &Desk<J>, count: usize) {
-    for _ in 0..TURNS {
-        if desk.read_on(rt, 0, 0).len() >= count && desk.read_on(rt, 1, 0).len() >= count {
-            return;
-        }
-        thread::sleep(rt, Duration::from_micros(10));
-    }
-    panic!(rt; "the workers read on by themselves")
+#[test]
+fn a_held_shard_holds_up_nobody_else(rt: HostRuntime) {
+    tried(&rt, &Trial::Works(Beside::BothHeld));
+    tried(&rt, &Trial::Works(Beside::FirstHeld));
+}
+
+#[test]
+fn workers_read_on_until_the_close(rt: HostRuntime) {
+    tried(&rt, &Trial::Works(Beside::EachWoken));
 }
