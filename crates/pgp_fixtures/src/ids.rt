@@ -1,8 +1,8 @@
-//! Devices, members, groups and versions by their numbers.
+//! Devices and groups by their numbers.
 
 ghost use Rattle.std.specs.Prelude.{◌≡◌};
 
-use pgp_ids::{Epoch, MAX_OSDS, Member, OsdId, Osds, PgId, Place, PoolId, Version};
+use pgp_ids::{MAX_OSDS, OsdId, Osds, PgId, Place, PoolId};
 
 /// A number that no device has: an empty place of a list.
 pub const NO_OSD: u16 = 9999;
@@ -12,14 +12,6 @@ pub fn osd(number: u8) -> OsdId
     ensures { result ≡ number }
 {
     OsdId::new(u16::from(number)).unwrap()
-}
-
-/// The device of this number in this slot.
-pub fn member(number: u8, slot: u8) -> Member {
-    Member {
-        osd: osd(number),
-        slot,
-    }
 }
 
 /// The list of these devices; a number out of range is an empty place.
@@ -38,13 +30,5 @@ pub fn group() -> PgId {
     PgId {
         pool: PoolId::new(1).unwrap(),
         pg: 0,
-    }
-}
-
-/// The write with this number, in this epoch.
-pub fn version(epoch: u32, v: u32) -> Version {
-    Version {
-        epoch: Epoch::new(epoch),
-        v,
     }
 }

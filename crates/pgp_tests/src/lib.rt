@@ -7,23 +7,13 @@
 #[cfg(test)]
 mod choices;
 #[cfg(test)]
-mod counting;
-#[cfg(test)]
 mod fault_places;
-#[cfg(test)]
-mod groups;
 #[cfg(test)]
 mod hashes;
 #[cfg(test)]
-mod infos;
-#[cfg(test)]
 mod judged_intervals;
 #[cfg(test)]
-mod marks;
-#[cfg(test)]
-mod missing;
-#[cfg(test)]
-mod prior_sets;
+mod shards;
 #[cfg(test)]
 mod straw2;
 #[cfg(test)]
