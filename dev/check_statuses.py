@@ -24,6 +24,7 @@ from refusing import library_of
 MAX_LINES = 1_000_000
 MOST_SECONDS = 120  # that a case takes
 CLOSE = b'{"op":"close"}\n'
+LONGEST_LINE = CLOSE[:-1].ljust(2**20) + b"\n"
 CLOSED = b'{"count":1,"epoch":0,"ok":"close"}\n'
 CLOSE_OF_3 = b'{"op":"close","v":3}\n'
 BAD_VERSION = b'{"code":34,"key":"v","refused":"BadField"}\n'
@@ -64,6 +65,8 @@ CASES = [
     Case("more workers than shards", ["run", "--shards", "1", "--workers", "3"], 0, script=CLOSE, output=CLOSED),
     Case("no thread for a worker", ["run", "--workers", "1"], 3, script=CLOSE, errors=NO_ENGINE, refused_thread=1),
     Case("one thread for three workers", ["run", "--workers", "3"], 3, script=CLOSE, errors=NO_ENGINE, refused_thread=2),
+    Case("as long a line as may be", ["run"], 0, script=LONGEST_LINE, output=CLOSED),
+    Case("a longer line", ["run"], 0, script=b" " + LONGEST_LINE, output=b'{"code":30,"refused":"LineTooLong"}\n'),
     Case("one line too many", ["run"], 3, script=CLOSE + b"\n" * MAX_LINES, output=CLOSED, errors=TOO_LARGE),
     Case("an input that can't be read", ["run"], 3, reads="/", errors=READ_FAULT),
     Case("an output that can't be written", ["run"], 3, script=CLOSE, writes="/dev/full", errors=WRITE_FAULT),
@@ -85,7 +88,7 @@ CASES = [
     Case("a compaction that can't be written", ["compact"], 3, script=COMPACT, writes="/dev/full", errors=WRITE_FAULT),
     Case("a compaction that nobody reads", ["compact"], 3, script=COMPACT, writes=NOBODY, errors=WRITE_FAULT),
     Case("help", ["--help"], 0, output=None, says=b"pgpeer explain 1.a <"),
-    Case("help on a run", ["run", "--help"], 0, output=None),
+    Case("help on a run", ["run", "--help"], 0, output=None, says=b"--workers <N>"),
     Case("help on an explanation", ["explain", "--help"], 0, output=None, says=b"pgpeer explain 1.a <"),
     Case("help on a compaction", ["compact", "--help"], 0, output=None),
     Case("help that can't be written", ["--help"], 3, writes="/dev/full", errors=WRITE_FAULT),

@@ -46,7 +46,7 @@ echo "{last}"
 exit {status}
 """
 BUILD = """mkdir -p crates/pgpeer/out && cp /bin/true crates/pgpeer/out/pgpeer
-for it in pgp_thread_tests pgp_run_tests; do mkdir -p crates/$it/out && touch crates/$it/out/${it}_tests; done"""
+mkdir -p crates/pgp_thread_tests/out && touch crates/pgp_thread_tests/out/pgp_thread_tests_tests"""
 BUILD_C = """#!/bin/sh
 test "$1" = --after-gate || exit 9
 {build}
@@ -116,7 +116,7 @@ class Runs(WithTree):
         self.run_all()
         left = {str(it.relative_to(self.root)) for it in set(self.root.rglob("*")) - before}
         made = ("crates/pgpeer/out/pgpeer", "crates/pgp_c/out/c/libpgpeer.so")
-        made += tuple(f"crates/{it}/out/{it}_tests" for it in ("pgp_thread_tests", "pgp_run_tests"))
+        made += ("crates/pgp_thread_tests/out/pgp_thread_tests_tests",)
         within = {str(it) for file in made for it in pathlib.PurePath(file).parents if it.name}
         self.assertEqual(left, {*made, *within})
 

@@ -1,56 +1,28 @@
 //! Runs stored scripts, each from an empty log, and writes the name of each and its answers.
 //!
-//! A line that begins with `# ` is the name of the script in the lines after it, up to the next such line. Lines before the
-//! first such line are a script without a name. The stored run of this program, its files `stdin` and `stdout`, is the tests
-//! of what scripts are answered.
+//! A line that begins with `# ` is the name of the script in the lines after it, up to the next such line. The stored run of this
+//! program, its files `stdin` and `stdout`, is the tests of what scripts are answered.
 #![tactic(auto)]
 
-mod split;
-mod streams;
-
-use pgp_core::{Format, run_script};
-use split::{first_line, first_script};
-use std::alloc::Global;
+use pgp_core::{Format, Session};
 use std::io;
-use std::io::{ErrorKind, Read, Write};
-use streams::{AnswerWriter, ScriptReader};
+use std::io::{BufRead, BufReader, BufWriter, ErrorKind, Write};
 
 fn main(rt: HostRuntime) -> io::Result<()> {
-    let mut stored = Vec::new(rt.alloc());
-    rt.stdin().read_to_end(&mut stored)?;
-    let answers = answer_all(rt.alloc(), stored.as_slice())?;
-    let mut out = rt.stdout();
-    out.write_all(answers.as_slice())?;
+    let alloc = rt.alloc();
+    let mut out = BufWriter::new(alloc, rt.stdout())?;
+    let mut session = Session::new(alloc, Format::Two);
+    for line in BufReader::new(alloc, rt.stdin())?.split(alloc, b'\n') {
+        let line = line?;
+        if line.starts_with(b"# ") {
+            session = Session::new(alloc, Format::Two);
+            out.write_all(line.as_slice())?;
+            out.write_all(b"\n")?;
+        } else if session.answer(line.as_slice()).is_ok() {
+            out.write_all(session.last_answer())?;
+        } else {
+            return Err(io::Error::from(ErrorKind::OutOfMemory));
+        }
+    }
     out.flush()
-}
-
-/// The names of the scripts, each with the answers of its script.
-fn answer_all(alloc: Global, stored: &[u8]) -> io::Result<Vec<u8>> {
-    let mut taken = AnswerWriter::new(alloc);
-    let mut rest = stored;
-    while !rest.is_empty() {
-        let (named, others) = first_script(rest);
-        answer(alloc, named, &mut taken)?;
-        rest = others;
-    }
-    Ok(taken.bytes)
-}
-
-/// Puts the name of the script, if it has one, and its answers.
-fn answer(alloc: Global, named: &[u8], taken: &mut AnswerWriter) -> io::Result<()> {
-    let (name, script) = if named.starts_with(b"# ") {
-        first_line(named)
-    } else {
-        named.split_at(0)
-    };
-    taken.bytes.extend_from_slice(name)?;
-    match run_script(
-        alloc,
-        Format::Two,
-        &mut ScriptReader { left: script },
-        taken,
-    ) {
-        Ok(()) => Ok(()),
-        Err(_) => Err(io::Error::from(ErrorKind::Other)),
-    }
 }
