@@ -56,7 +56,7 @@ exit {status}
 BUILT_C = 'mkdir -p "$2" && touch "$2/libpgpeer.so"'
 ON_C = 1 + 2 * 9 + 700  # the build of the library for C, and its checks
 FOLLOWED, IN_CEPH = 2 * 7600 + 14 + 5, 1175
-ALL = 412 + ON_C + 4 + 110 + 4 + 47 + 14 + 24 + 1060 + 1352 + 1022 + 31 + FOLLOWED + IN_CEPH + 5 * 261 + 2 * 100
+ALL = 412 + ON_C + 4 + 110 + 4 + 47 + 14 + 24 + 1060 + 1352 + 1022 + 31 + FOLLOWED + IN_CEPH + 5 * 261 + 100
 
 
 class WithTree(Room):
@@ -160,7 +160,7 @@ class Runs(WithTree):
         for name in SAYS:
             self.stub(name, "Traceback", 1)
         status, lines = self.run_all()
-        self.assertEqual((status, lines[-1]), (1, "119 passed, 23 failed"))
+        self.assertEqual((status, lines[-1]), (1, "119 passed, 22 failed"))
 
     def test_a_part_without_end_is_stopped(self):
         self.stub("dev/check_statuses.py", "", before="time.sleep(600)")
@@ -173,7 +173,7 @@ class Runs(WithTree):
     def test_without_a_compiler_etcd_and_ceph_what_needs_them_is_skipped(self):
         with mock.patch.object(run_tests.shutil, "which", lambda name: None):
             status, lines = self.run_all()
-        self.assertEqual((status, lines[-1]), (0, f"{ALL - ON_C - FOLLOWED - IN_CEPH - 5 * 261 - 2 * 100} passed, 0 failed"))
+        self.assertEqual((status, lines[-1]), (0, f"{ALL - ON_C - FOLLOWED - IN_CEPH - 5 * 261 - 100} passed, 0 failed"))
         self.assertIn("followers of one log: skipped, since etcd isn't there", lines)
         self.assertIn("a follower that is cut off: skipped, since etcd isn't there", lines)
         self.assertIn("a Ceph cluster: skipped, since ceph isn't there", lines)
