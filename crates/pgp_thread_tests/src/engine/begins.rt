@@ -33,7 +33,11 @@ fn an_engine_begins_with_a_log(rt: HostRuntime) -> Result<(), Fail> {
     let mut world = World::over(rt.alloc(), SHARDS, log.entries())?;
     world.absorb(1, log.len())?;
     is_count(&rt, world.ask(group())?.count, log.len());
-    is_count(&rt, World::start(rt.alloc(), SHARDS)?.submit(given(&rt, TO_SERVE[0]))?, 1);
+    is_count(
+        &rt,
+        World::start(rt.alloc(), SHARDS)?.submit(given(&rt, TO_SERVE[0]))?,
+        1,
+    );
     let first = log.entries().first().expect(&rt, "an entry");
     let mut owners = Vec::new(rt.alloc());
     for _ in 0..5 {

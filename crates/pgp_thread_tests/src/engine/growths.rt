@@ -10,16 +10,15 @@ use pgp_engine::{Client, Naming};
 /// Submits each entry and asks about the group, has the shard read that the asks passed by, and places an object by the whole log.
 pub fn call_again<J: Naming>(rt: &impl Host, desk: &Desk<J>, clients: Vec<Client<J>>) {
     let mut clients = clients;
-    let mut taken = 0;
-    for line in &TO_SERVE {
-        taken += 1;
-        is_count(rt, desk.put(rt, line), taken);
-        is_count(rt, desk.ask(rt), taken);
+    let whole = TO_SERVE.len();
+    for taken in 0..TO_SERVE.len() {
+        is_count(rt, desk.put(rt, TO_SERVE[taken]), taken + 1);
+        is_count(rt, desk.ask(rt), taken + 1);
     }
     assert!(rt; desk.read_on(rt, 0, 1) >= 1);
-    is_count(rt, desk.read_on(rt, 0, taken), taken);
+    is_count(rt, desk.read_on(rt, 0, whole), whole);
     let mut client = clients.pop().expect(rt, "a client");
-    is_placed(rt, &mut client, taken);
+    is_placed(rt, &mut client, whole);
 }
 
 #[test]
