@@ -12,10 +12,10 @@ from case import HAS_PROGRAM, PROGRAM, ROOT, Room
 from check_links import documents
 
 STREAMS = {"prints": "stdout", "says on standard error": "stderr"}
-BEGINS = re.compile(r"    (\w+=\S+ )?(cd|rt|cc|export|echo|mkdir|time|python3|pgpeer|pgpeer-ceph|ceph|\./\w+|(ceph|tools|dev|bench|fuzz)/\S+)\s")
+BEGINS = re.compile(r"    (\w+=\S+ )?(cd|rt|cc|export|echo|mkdir|python3|pgpeer|pgpeer-ceph|ceph|\./\w+|(ceph|tools|dev|bench|fuzz)/\S+)\s")
 LEFT_OUT = (
     *(r"\brt ", "tools/", r"\bLOG\b", r"\[NAME"),  # take an hour, or are forms of commands
-    *("/tmp/pgpeer", r"\./outage", "--libs", "^time "),  # other parts of test.sh run these, or what they show
+    *("/tmp/pgpeer", r"\./outage", "--libs"),  # other parts of test.sh run these, or what they show
     *("^ceph ", "pgpeer-ceph fetch", "pgpeer-ceph what-if", "pgpeer_follow", "etcd"),  # need a cluster
 )
 LONG = re.compile(r"(?:cd \S+ && )?((?:bench|dev|fuzz)/.*)")  # of these only the words are tried
