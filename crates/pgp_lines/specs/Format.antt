@@ -1,6 +1,6 @@
 -- The versions of this project's own format. A line names its version at `v`; one that names none is of the first. Lines are read up to some version,
 -- here called `last`.
-use Rattle.std.specs.Prelude.{ℕ, List, Bool, true, false, nat_eq, codes, Option, Some, None, option_map, unwrap_or, if◌then◌else◌, Result, Ok, Err}
+use Rattle.std.specs.Prelude.{ℕ, List, Bool, true, false, nat_eq, nat_le, codes, Option, Some, None, option_map, unwrap_or, if◌then◌else◌, Result, Ok, Err}
 use Rattle.std.specs.List.{list_all}
 use Rattle.std.specs.Option.{ok_or, option_map_or}
 use Rattle.serde_json.specs.Data.{Data}
@@ -52,21 +52,15 @@ judged format = ok_or format (bad_field (codes "v"))
 
 -- it has pools, and codes of traces, of this kind: grouped ones came with the second
 abbrev pub has_kind : Format → PoolKind → Bool
-has_kind Three kind = true
-has_kind Two kind = true
-has_kind One Replicated = true
-has_kind One (Erasure k) = true
-has_kind One (Grouped groups) = false
+has_kind format Replicated = true
+has_kind format (Erasure k) = true
+has_kind format (Grouped groups) = nat_le 2 (format_number format)
 
 -- it has buckets that choose so: straw2 buckets came with the third
 abbrev pub has_alg : Format → BucketAlg → Bool
-has_alg Three alg = true
-has_alg Two Uniform = true
-has_alg Two Weighed = true
-has_alg Two Straw2 = false
-has_alg One Uniform = true
-has_alg One Weighed = true
-has_alg One Straw2 = false
+has_alg format Uniform = true
+has_alg format Weighed = true
+has_alg format Straw2 = nat_le 3 (format_number format)
 
 -- it has the key `after` of an incremental, which came with the third
 abbrev pub has_after : Format → Bool

@@ -28,9 +28,9 @@ no_change = record {
   crush = None;
 }
 
--- the list at a key; that of the incremental stays where the key is absent
-abbrev pub list_at : {A : Type 0} → List ℕ → (Data → Option A) → List A → Data → Result (List A) LineFault
-list_at key shape absent d = optional key (list_of shape) absent d
+-- the list at a key, empty where the key is absent
+abbrev pub list_at : {A : Type 0} → List ℕ → (Data → Option A) → Data → Result (List A) LineFault
+list_at key shape d = optional key (list_of shape) [] d
 
 -- the epoch of the map that is changed, where the line names one
 abbrev pub after_in : Data → Option (Option ℕ)
@@ -40,40 +40,36 @@ after_in d = option_map Some (word_in d)
 -- epoch before its own.
 abbrev pub with_down : Format → Option ℕ → Incremental → Data → Result Incremental LineFault
 with_down format after inc d = do
-  crush ← optional (codes "crush") tree_in inc.crush d
+  crush ← optional (codes "crush") tree_in None d
   known ← judged_at (codes "crush") (has_tree format crush)
-  down ← list_at (codes "down") osd_in inc.down d
+  down ← list_at (codes "down") osd_in d
   epoch ← required (codes "epoch") word_in d
-  gone ← list_at (codes "gone") osd_in inc.gone d
-  lost ← list_at (codes "lost") device_epoch_in inc.lost d
+  gone ← list_at (codes "gone") osd_in d
+  lost ← list_at (codes "lost") device_epoch_in d
   Ok (record inc { after = unwrap_or after (epoch - 1); crush = crush; down = down; epoch = epoch; gone = gone; lost = lost })
 
 -- with pools and groups, in a line of this version
 abbrev pub with_pools : Format → Incremental → Data → Result Incremental LineFault
 with_pools format inc d = do
-  pools ← list_at (codes "pools") pool_in inc.pools d
+  pools ← list_at (codes "pools") pool_in d
   known ← judged_at (codes "pools") (has_pools format pools)
-  sizes ← list_at (codes "sizes") pool_sizes_in inc.sizes d
-  temp ← list_at (codes "temp") temp_in inc.temp d
+  sizes ← list_at (codes "sizes") pool_sizes_in d
+  temp ← list_at (codes "temp") temp_in d
   Ok (record inc { pools = pools; sizes = sizes; temp = temp })
 
 -- with the devices that come, or go on; `v` stands among their keys
 abbrev pub with_up : Option Format → Incremental → Data → Result Incremental LineFault
 with_up format inc d = do
-  up ← list_at (codes "up") osd_in inc.up d
-  up_thru ← list_at (codes "up_thru") device_epoch_in inc.up_thru d
+  up ← list_at (codes "up") osd_in d
+  up_thru ← list_at (codes "up_thru") device_epoch_in d
   known ← judged format
-  weight ← list_at (codes "weight") device_weight_in inc.weight d
+  weight ← list_at (codes "weight") device_weight_in d
   Ok (record inc { up = up; up_thru = up_thru; weight = weight })
-
--- with all parts of a line
-abbrev pub with_parts : Format → Option Format → Incremental → Data → Result Incremental LineFault
-with_parts last format inc d = do
-  after ← optional (codes "after") after_in None d
-  down ← with_down (read_in last format) after inc d
-  pools ← with_pools (read_in last format) down d
-  with_up format pools d
 
 -- the line of an incremental, which names this version: its keys are judged in ascending byte order, so the least bad one is named
 abbrev pub inc_of : Format → Option Format → Data → Result Incremental LineFault
-inc_of last format d = with_parts last format no_change d
+inc_of last format d = do
+  after ← optional (codes "after") after_in None d
+  down ← with_down (read_in last format) after no_change d
+  pools ← with_pools (read_in last format) down d
+  with_up format pools d

@@ -1,5 +1,5 @@
 -- What is wrong with a line, with the keys that are named as bytes.
-use Rattle.std.specs.Prelude.{ℕ, List, Option, Some, None, Result, Ok, Err, string_bytes}
+use Rattle.std.specs.Prelude.{◌≡◌, ℕ, List, Option, Some, None, Result, Ok, Err, IfSome, IfOk, IfErr, OnOk, string_bytes}
 use Rattle.pgp_ids.specs.declared.text_fault.TextFault.{TextFault}
 use Rattle.pgp_ids.specs.declared.text_fault.TextFault.TheVariants.{LineTooLong, NotJson, NoOp, UnknownKey, BadField, Memory}
 
@@ -19,6 +19,14 @@ line_fault_of NoOp = Some no_op
 line_fault_of (UnknownKey key) = Some (unknown_key (string_bytes key))
 line_fault_of (BadField key) = Some (bad_field (string_bytes key))
 line_fault_of Memory = None
+
+-- what a reader answers of a line that says this: its value, or its first fault; one that is out of memory says nothing of it
+abbrev pub IsRead : {A : Type 0} → Result A TextFault → Result A LineFault → Type 0
+IsRead result said = IfOk result (λ x. said ≡ Ok x) × IfErr result (λ fault. IfSome (line_fault_of fault) (λ f. said ≡ Err f))
+
+-- the same of a reader that puts the value in a place, where this is then
+abbrev pub IsPut : {A : Type 0} → Result (Unit {0}) TextFault → Result A LineFault → A → Type 0
+IsPut result said new = OnOk result (said ≡ Ok new) × IfErr result (λ fault. IfSome (line_fault_of fault) (λ f. said ≡ Err f))
 
 infixl 10 ◌>>=◌
 -- what follows, with the value before it; the first fault stays

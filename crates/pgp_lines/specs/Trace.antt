@@ -36,20 +36,6 @@ code_in format d = do
 abbrev pub osds_in : Bool → Data → Option (List (Option ℕ))
 osds_in nulls d = list_in 0 16 (place_in nulls) d
 
--- how many members a group has, and with how many of them it may serve
-abbrev pub sizes_in : Data → Option (ℕ × ℕ)
-sizes_in d = do
-  size ← field (codes "size") (number_in 1 16) d
-  min_size ← field (codes "min_size") (number_in 1 size) d
-  Some (size, min_size)
-
--- what the map says of the primary
-abbrev pub facts_in : Data → Option PrimaryFacts
-facts_in d = do
-  up_from ← field (codes "up_from") word_in d
-  up_thru ← field (codes "up_thru") word_in d
-  Some (record { up_from = up_from; up_thru = up_thru })
-
 -- whom a group has: each primary is the first device of its list
 abbrev pub membership : List (Option ℕ) → List (Option ℕ) → ℕ → ℕ → Membership
 membership up acting size min_size = record {
@@ -66,24 +52,20 @@ abbrev pub epoch_state : List (Option ℕ) → List (Option ℕ) → ℕ → ℕ
 epoch_state up acting size min_size up_from up_thru =
     record { members = membership up acting size min_size; facts = record { up_from = up_from; up_thru = up_thru } }
 
--- whom a group has
-abbrev pub members_in : Bool → Data → Option Membership
-members_in nulls d = do
-  sizes ← sizes_in d
-  up ← field (codes "up") (osds_in nulls) d
-  acting ← field (codes "acting") (osds_in nulls) d
-  Some (membership up acting sizes.0 sizes.1)
-
 -- the keys that an epoch's object must have
 abbrev pub epoch_keys : List (List ℕ)
 epoch_keys = codes "acting" ∷ codes "min_size" ∷ codes "size" ∷ codes "up" ∷ codes "up_from" ∷ codes "up_thru" ∷ []
 
--- the fields of an epoch's object
+-- the fields of an epoch's object: how many members a group has and with how many of them it may serve among them
 abbrev pub epoch_fields_in : Bool → Data → Option EpochState
 epoch_fields_in nulls d = do
-  facts ← facts_in d
-  members ← members_in nulls d
-  Some (record { members = members; facts = facts })
+  up_from ← field (codes "up_from") word_in d
+  up_thru ← field (codes "up_thru") word_in d
+  size ← field (codes "size") (number_in 1 16) d
+  min_size ← field (codes "min_size") (number_in 1 size) d
+  up ← field (codes "up") (osds_in nulls) d
+  acting ← field (codes "acting") (osds_in nulls) d
+  Some (epoch_state up acting size min_size up_from up_thru)
 
 -- an object with these fields and no other
 abbrev pub epoch_state_in : Bool → Data → Option EpochState

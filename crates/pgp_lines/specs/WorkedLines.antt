@@ -1,5 +1,5 @@
 -- The lines of the worked laws, and what they say.
-use Rattle.std.specs.Prelude.{ℕ, ◌-◌, pos, negsuc, List, [], ◌∷◌, ◌++◌, replicate, codes, true, false, Option, Some, None, ⊤, refl}
+use Rattle.std.specs.Prelude.{◌≡◌, ℕ, ◌-◌, pos, negsuc, List, [], ◌∷◌, ◌++◌, length, map, replicate, codes, true, false, Option, Some, None, Err, ⊤, refl}
 use Rattle.std.specs.Fmt.{digits}
 use Rattle.std.specs.Str.{is_utf8, chars}
 use Rattle.serde_json.proofs.OnLiterals.{serde_json_on_literals}
@@ -15,15 +15,23 @@ use Rattle.pgp_ids.specs.declared.pool.PoolKind.{PoolKind}
 use Rattle.pgp_ids.specs.declared.pool.PoolKind.TheVariants.{Replicated, Erasure, Grouped}
 use Rattle.pgp_ids.specs.declared.report.Info.{Info}
 use Rattle.pgp_ids.specs.declared.report.Report.{Report}
+use Rattle.pgp_lines.specs.Incremental.{no_change}
+use Rattle.pgp_lines.specs.LineFault.{bad_field}
 use Rattle.pgp_lines.specs.MadeBucket.{sound_bucket}
+use Rattle.pgp_lines.specs.Command.{command_of}
 use Rattle.pgp_lines.specs.Trace.{epoch_state}
 use Rattle.pgp_lines.specs.declared.command.Command.{Command}
 use Rattle.pgp_lines.specs.declared.command.Command.TheVariants.{Submit, Trace}
+use Rattle.pgp_lines.specs.declared.command.format.Format.TheVariants.{Two}
 
 -- nothing but a name for the list below: a proof that unfolds it sees lines and answers computed
 unfoldable pub text_computed : ⊤
 unfolding is_utf8 chars digits serde_json_on_literals
 text_computed = tt
+
+-- each of these texts makes a line that is refused for the value at this key
+abbrev pub AreBad : (List ℕ → List ℕ) → List ℕ → List (List ℕ) → Type 0
+AreBad line key texts = map (λ text. command_of Two (line text)) texts ≡ replicate (length texts) (Err (bad_field key))
 
 -- this many lists, each in the one before it, all of them closed
 abbrev pub nested : ℕ → List ℕ
@@ -32,6 +40,10 @@ nested n = replicate n 91 ++ replicate n 93
 -- the end of the log, with one more key
 abbrev pub close_with : List ℕ → List ℕ
 close_with key = codes "{\"op\":\"close\",\"" ++ key ++ codes "\":0}"
+
+-- the end of the log, with this for its version
+abbrev pub close_of : List ℕ → List ℕ
+close_of v = codes "{\"op\":\"close\",\"v\":" ++ v ++ codes "}"
 
 -- a trace of one epoch in a replicated pool
 abbrev pub trace_line : List ℕ
@@ -76,6 +88,10 @@ grouped_trace_line groups =
 abbrev pub grouped_trace : List (Option Part) → Command
 grouped_trace groups = Trace (Grouped groups) (epoch_state (None ∷ Some 3 ∷ []) (Some 1 ∷ []) 2 1 7 0 ∷ [])
 
+-- an incremental of this epoch
+abbrev pub inc_of_epoch : List ℕ → List ℕ
+inc_of_epoch epoch = codes "{\"op\":\"inc\",\"epoch\":" ++ epoch ++ codes "}"
+
 -- an incremental of epoch 1, with more keys
 abbrev pub inc_with : List ℕ → List ℕ
 inc_with keys = codes "{\"op\":\"inc\",\"epoch\":1," ++ keys ++ codes "}"
@@ -86,20 +102,7 @@ inc_of_three keys = codes "{\"op\":\"inc\",\"v\":3," ++ keys ++ codes "}"
 
 -- an incremental that does nothing
 abbrev pub empty_inc : ℕ → Incremental
-empty_inc epoch = record {
-  after = epoch - 1;
-  epoch = epoch;
-  up = [];
-  down = [];
-  gone = [];
-  weight = [];
-  up_thru = [];
-  lost = [];
-  pools = [];
-  sizes = [];
-  temp = [];
-  crush = None;
-}
+empty_inc epoch = record no_change { after = epoch - 1; epoch = epoch }
 
 -- devices whose weight becomes 0
 abbrev pub out_of : List ℕ → List DeviceWeight
@@ -116,12 +119,16 @@ opening up out root pool kind temp = Submit (Inc (record (empty_inc 1) {
   crush = Some (root ∷ []);
 }))
 
--- a replicated pool whose one group is placed by pg_temp
-abbrev pub replicated_line : List ℕ
-replicated_line =
+-- a replicated pool of one group, with more keys
+abbrev pub copies_with : List ℕ → List ℕ
+copies_with keys =
     codes "{\"op\":\"inc\",\"epoch\":1,\"up\":[0,1,2],\"weight\":[[1,0],[2,0]],\"crush\":[{\"id\":-1,\"type\":1,\""
     ++ codes "alg\":\"uniform\",\"items\":[0,1,2]}],\"pools\":[{\"id\":1,\"pg_num\":1,\"kind\":\"replicated\",\"size"
-    ++ codes "\":3,\"min_size\":2,\"leaf\":0}],\"temp\":[[1,0,[0,1,2]]]}"
+    ++ codes "\":3,\"min_size\":2,\"leaf\":0}]" ++ keys ++ codes "}"
+
+-- the same with its group placed by pg_temp
+abbrev pub replicated_line : List ℕ
+replicated_line = copies_with (codes ",\"temp\":[[1,0,[0,1,2]]]")
 
 -- what that line says
 abbrev pub replicated_command : List TempList → Command
@@ -132,38 +139,25 @@ replicated_command temp =
 abbrev pub first_three : ℕ → TempList
 first_three pool = record { pg = record { pool = pool; pg = 0 }; osds = Some 0 ∷ Some 1 ∷ Some 2 ∷ [] }
 
--- the same pool without pg_temp
-abbrev pub replicated_line_without_temp : List ℕ
-replicated_line_without_temp =
-    codes "{\"op\":\"inc\",\"epoch\":1,\"up\":[0,1,2],\"weight\":[[1,0],[2,0]],\"crush\":[{\"id\":-1,\"type\":1,\""
-    ++ codes "alg\":\"uniform\",\"items\":[0,1,2]}],\"pools\":[{\"id\":1,\"pg_num\":1,\"kind\":\"replicated\",\"size"
-    ++ codes "\":3,\"min_size\":2,\"leaf\":0}]}"
+-- a pool of this kind, whose one group is placed by pg_temp, since all devices are out; with more keys
+abbrev pub coded_with : List ℕ → List ℕ → List ℕ
+coded_with keys kind =
+    codes "{\"op\":\"inc\"," ++ keys ++ codes "\"epoch\":1,\"up\":[0,1,2,3,4,5],\"weight\":[[0,0],[1,0],[2,0],[3,0],[4,0],[5,0]"
+    ++ codes "],\"crush\":[{\"id\":-1,\"type\":1,\"alg\":\"uniform\",\"items\":[0,1,2,3,4,5]}],\"pools\":[{\"id\":2,"
+    ++ codes "\"pg_num\":1,\"kind\":" ++ kind ++ codes ",\"size\":3,\"min_size\":2,\"leaf\":0}],\"temp\":[[2,0,[0,1,2]]]}"
 
--- an erasure pool whose one group is placed by pg_temp, since all devices are out
+-- an erasure pool
 abbrev pub erasure_pool_line : List ℕ
-erasure_pool_line =
-    codes "{\"op\":\"inc\",\"epoch\":1,\"up\":[0,1,2,3,4,5],\"weight\":[[0,0],[1,0],[2,0],[3,0],[4,0],[5,0]"
-    ++ codes "],\"crush\":[{\"id\":-1,\"type\":1,\"alg\":\"uniform\",\"items\":[0,1,2,3,4,5]}],\"pools\":[{\"id\":2,"
-    ++ codes "\"pg_num\":1,\"kind\":\"erasure\",\"k\":2,\"size\":3,\"min_size\":2,\"leaf\":0}],\"temp\":[[2,0,[0,1,2"
-    ++ codes "]]]}"
+erasure_pool_line = coded_with [] (codes "\"erasure\",\"k\":2")
 
--- what that line says
-abbrev pub erasure_pool_command : Command
-erasure_pool_command =
-    opening (0 ∷ 1 ∷ 2 ∷ 3 ∷ 4 ∷ 5 ∷ []) (0 ∷ 1 ∷ 2 ∷ 3 ∷ 4 ∷ 5 ∷ []) (sound_bucket (negsuc 0) 1 Uniform (pos 0 ∷ pos 1 ∷ pos 2 ∷ pos 3 ∷ pos 4 ∷ pos 5 ∷ []) [] refl) 2 (Erasure 2) (first_three 2 ∷ [])
-
--- that incremental in version 2, with a grouped pool in the place of the erasure pool
+-- a grouped pool in version 2
 abbrev pub grouped_pool_line : List ℕ
-grouped_pool_line =
-    codes "{\"op\":\"inc\",\"v\":2,\"epoch\":1,\"up\":[0,1,2,3,4,5],\"weight\":[[0,0],[1,0],[2,0],[3,0],[4,0],[5,0]"
-    ++ codes "],\"crush\":[{\"id\":-1,\"type\":1,\"alg\":\"uniform\",\"items\":[0,1,2,3,4,5]}],\"pools\":[{\"id\":2,"
-    ++ codes "\"pg_num\":1,\"kind\":\"grouped\",\"groups\":[[[0,1],1],[[2],1]],\"size\":3,\"min_size\":2,\"leaf\":0}],"
-    ++ codes "\"temp\":[[2,0,[0,1,2]]]}"
+grouped_pool_line = coded_with (codes "\"v\":2,") (codes "\"grouped\",\"groups\":[[[0,1],1],[[2],1]]")
 
--- what that line says
-abbrev pub grouped_pool_command : Command
-grouped_pool_command =
-    opening (0 ∷ 1 ∷ 2 ∷ 3 ∷ 4 ∷ 5 ∷ []) (0 ∷ 1 ∷ 2 ∷ 3 ∷ 4 ∷ 5 ∷ []) (sound_bucket (negsuc 0) 1 Uniform (pos 0 ∷ pos 1 ∷ pos 2 ∷ pos 3 ∷ pos 4 ∷ pos 5 ∷ []) [] refl) 2 (Grouped pair_and_one) (first_three 2 ∷ [])
+-- what such a line says
+abbrev pub coded_command : PoolKind → Command
+coded_command kind =
+    opening (0 ∷ 1 ∷ 2 ∷ 3 ∷ 4 ∷ 5 ∷ []) (0 ∷ 1 ∷ 2 ∷ 3 ∷ 4 ∷ 5 ∷ []) (sound_bucket (negsuc 0) 1 Uniform (pos 0 ∷ pos 1 ∷ pos 2 ∷ pos 3 ∷ pos 4 ∷ pos 5 ∷ []) [] refl) 2 kind (first_three 2 ∷ [])
 
 -- an incremental that makes one pool, whose kind and data are these keys, with more keys of its own
 abbrev pub pool_line : List ℕ → List ℕ → List ℕ

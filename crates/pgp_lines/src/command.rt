@@ -3,33 +3,28 @@ ghost use Rattle.std.specs.Prelude.{◌≡◌, true, is_some, Err, IfOk, IfErr, 
 ghost use Rattle.std.specs.Str.{is_utf8};
 ghost use Rattle.pgp_lines.specs.Value.{view};
 ghost use Rattle.serde_json.specs.Read.{read};
-ghost use Rattle.pgp_lines.specs.LineFault.{line_fault_of, not_json};
+ghost use Rattle.pgp_lines.specs.LineFault.{line_fault_of, not_json, IsRead};
 ghost use Rattle.pgp_lines.specs.Command.{command_in, data_of, command_of, IsInRange};
 ghost use Rattle.pgp_lines.specs.Op.{op_in};
 
 mod buckets;
-mod devices;
-mod entries;
-mod faults;
 mod fields;
 mod format;
 mod groups;
 mod incremental;
-mod info;
 mod lists;
-mod locate;
 mod members;
 mod number;
 mod numbers;
 mod objects;
 mod op;
 mod pools;
+mod reports;
 mod trace;
 mod trail;
 mod value;
 
 use bumpalo::Bump;
-use faults::unknown_key_fault;
 pub use format::Format;
 use format::{read_format, read_in};
 use json::{Error, Scratch, Tape};
@@ -157,8 +152,7 @@ fn read_within<'a>(
     room: &'a mut Scratch,
     trail: Option<&Trail>,
 ) -> Result<Command, TextFault>
-    ensures ok { IfOk result (λ command. command_of last line.now ≡ Ok command) }
-    ensures err { IfErr result (λ fault. IfSome (line_fault_of fault) (λ f. command_of last line.now ≡ Err f)) }
+    ensures read { IsRead result (command_of last line.now) }
     ensures memory { result ≡ Err TextFault.Memory → is_utf8 line.now ≡ true }
     ensures in_range { IfOk result IsInRange }
 {
@@ -209,9 +203,7 @@ fn read_text<'a>(
 
 /// The command of an object. The operation is judged first, then the keys, then their values.
 fn read_command(alloc: Global, value: &Value<'_, '_>, last: Format) -> Result<Command, TextFault>
-    ensures ok { IfOk result (λ command. command_in last (view value.now) ≡ Ok command) }
-    ensures err { IfErr result
-        (λ fault. IfSome (line_fault_of fault) (λ f. command_in last (view value.now) ≡ Err f)) }
+    ensures read { IsRead result (command_in last (view value.now)) }
     // That no operation is named is found out without memory.
     ensures memory { result ≡ Err TextFault.Memory → is_some (op_in (view value.now)) ≡ true }
 {
@@ -220,7 +212,7 @@ fn read_command(alloc: Global, value: &Value<'_, '_>, last: Format) -> Result<Co
     };
     let format = read_format(value, last);
     if let Some(key) = unknown_key(value, op.keys(read_in(last, format))) {
-        return Err(unknown_key_fault(alloc, key));
+        return Err(TextFault::UnknownKey(String::from_str(alloc, key)?));
     }
     op.read(alloc, value, last, format)
 }

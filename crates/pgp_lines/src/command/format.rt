@@ -1,11 +1,11 @@
 //! The versions of the format, and what each has.
-ghost use Rattle.std.specs.Prelude.{◌≡◌, Ok, Err, IfOk, IfErr, IfSome, OnOk};
+ghost use Rattle.std.specs.Prelude.{◌≡◌};
 ghost use Rattle.pgp_lines.specs.Value.{view};
-ghost use Rattle.pgp_lines.specs.LineFault.{line_fault_of};
+ghost use Rattle.pgp_lines.specs.LineFault.{IsRead};
 ghost use Rattle.pgp_lines.specs.Format.{format_number, format_of, read_in, judged, has_kind, has_alg, has_after, has_pools, has_tree, judged_at};
 ghost use Rattle.std.specs.List.{list_all};
 
-use super::faults::bad_field_fault;
+use super::fields::or_bad_field;
 use super::numbers::read_number;
 use super::trail::Wanted;
 use super::value::Value;
@@ -51,16 +51,10 @@ pub(super) fn judge_format(
     value: &Value<'_, '_>,
     format: Option<Format>,
 ) -> Result<Format, TextFault>
-    ensures ok { IfOk result (λ known. judged format ≡ Ok known) }
-    ensures err { IfErr result (λ fault. IfSome (line_fault_of fault) (λ f. judged format ≡ Err f)) }
+    ensures { IsRead result (judged format) }
 {
-    match format {
-        Some(format) => Ok(format),
-        None => {
-            value.look_at("v", Wanted::Words("a version in which lines are read"));
-            Err(bad_field_fault(alloc, "v"))
-        }
-    }
+    value.look_at("v", Wanted::Words("a version in which lines are read"));
+    or_bad_field(alloc, format, "v")
 }
 
 /// `BadField` of a key whose value the version of its line hasn't.
@@ -70,15 +64,10 @@ pub(super) fn judge_at(
     key: &'static str,
     has: bool,
 ) -> Result<(), TextFault>
-    ensures ok { OnOk result (judged_at key.now has ≡ Ok tt) }
-    ensures err { IfErr result (λ fault. IfSome (line_fault_of fault) (λ f. judged_at key.now has ≡ Err f)) }
+    ensures { IsRead result (judged_at key.now has) }
 {
-    if has {
-        Ok(())
-    } else {
-        value.look_at(key, Wanted::Words("what a line of its version can have"));
-        Err(bad_field_fault(alloc, key))
-    }
+    value.look_at(key, Wanted::Words("what a line of its version can have"));
+    or_bad_field(alloc, has.then_some(()), key)
 }
 
 impl Format {
@@ -97,13 +86,9 @@ impl Format {
     pub(super) fn has_kind(self, kind: &PoolKind) -> bool
         ensures { result ≡ has_kind self kind.now }
     {
-        match self {
-            Format::One => match kind {
-                PoolKind::Replicated => true,
-                PoolKind::Erasure { .. } => true,
-                PoolKind::Grouped { .. } => false,
-            },
-            Format::Two | Format::Three => true,
+        match kind {
+            PoolKind::Replicated | PoolKind::Erasure { .. } => true,
+            PoolKind::Grouped { .. } => self.number() >= 2,
         }
     }
 
@@ -111,12 +96,9 @@ impl Format {
     fn has_alg(self, alg: BucketAlg) -> bool
         ensures { result ≡ has_alg self alg }
     {
-        match self {
-            Format::One | Format::Two => match alg {
-                BucketAlg::Uniform | BucketAlg::List => true,
-                BucketAlg::Straw2 => false,
-            },
-            Format::Three => true,
+        match alg {
+            BucketAlg::Uniform | BucketAlg::List => true,
+            BucketAlg::Straw2 => self.number() >= 3,
         }
     }
 
@@ -124,10 +106,7 @@ impl Format {
     pub(super) fn has_after(self) -> bool
         ensures { result ≡ has_after self }
     {
-        match self {
-            Format::One | Format::Two => false,
-            Format::Three => true,
-        }
+        matches!(self, Format::Three)
     }
 
     /// Whether it has each of these pools.

@@ -3,8 +3,8 @@ ghost use Rattle.std.specs.Prelude.{◌≡◌, ◌<◌, option_map, IfSome};
 ghost use Rattle.pgp_lines.specs.Value.{view};
 ghost use Rattle.pgp_lines.specs.Groups.{slot_in, slots_in, part_of, part_in, groups_in};
 
-use super::lists::read_pair;
-use super::numbers::{read_byte, read_number};
+use super::lists::{Plain, read_pair};
+use super::numbers::read_number;
 use super::value::Value;
 use pgp_ids::{MAX_PARTS, Part, Parts};
 
@@ -16,20 +16,22 @@ const MAX_SLOTS: usize = 16;
 
 /// At most 16 parts, in the first of 16 places. The bound is judged as the list is walked: a longer one is refused after
 /// its first 16 were read.
-pub(super) fn read_groups(value: &Value<'_, '_>) -> Option<Parts>
-    ensures { result ≡ groups_in (view value.now) }
-{
-    let mut items = value.items()?;
-    let mut groups = [None; MAX_PARTS];
-    let mut count = 0;
-    while let Some(item) = items.next() {
-        if count >= MAX_PARTS {
-            return None;
+impl Plain for Parts {
+    ghost plain = { groups_in };
+
+    fn from_value(value: &Value<'_, '_>) -> Option<Parts> {
+        let mut items = value.items()?;
+        let mut groups = [None; MAX_PARTS];
+        let mut count = 0;
+        while let Some(item) = items.next() {
+            if count >= MAX_PARTS {
+                return None;
+            }
+            groups[count] = Some(read_part(&item)?);
+            count += 1;
         }
-        groups[count] = Some(read_part(&item)?);
-        count += 1;
+        Some(Parts::new(groups))
     }
-    Some(Parts::new(groups))
 }
 
 /// `[list of slots, least]`.
@@ -37,7 +39,7 @@ fn read_part(value: &Value<'_, '_>) -> Option<Part>
     ensures { result ≡ part_in (view value.now) }
 {
     let (slots, least) = read_pair(value)?;
-    part_of(&slots, read_byte(&least)?)
+    part_of(&slots, u8::from_value(&least)?)
 }
 
 /// The part of a list of at most 16 slots.

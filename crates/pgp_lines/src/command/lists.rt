@@ -1,5 +1,5 @@
 //! Lists: those of a fixed number of items, and those of items that are all of one shape.
-ghost use Rattle.std.specs.Prelude.{◌≡◌, Option, option_map, IfOk};
+ghost use Rattle.std.specs.Prelude.{◌≡◌, Option, Some, option_map, IfOk};
 ghost use Rattle.serde_json.specs.Data.{Data};
 ghost use Rattle.pgp_lines.specs.Value.{view, items_left};
 ghost use Rattle.pgp_lines.specs.Shapes.{list_in, list_of, pair_in, triple_in, quadruple_in, two_of, three_of};
@@ -8,7 +8,17 @@ use super::value::{Items, Value};
 use pgp_ids::Seq;
 use std::alloc::{AllocError, Global};
 
-/// What an item of a list can be read as.
+/// What a value can be read as without memory.
+pub(super) trait Plain {
+    /// What the value is, where it has the shape.
+    ghost plain: { Data → Option Self };
+
+    /// What the value is, or `None` where it has another shape or is out of range.
+    fn from_value(value: &Value<'_, '_>) -> Option<Self>
+        ensures { result ≡ plain (view value.now) };
+}
+
+/// What a value can be read as.
 pub(super) trait Shape {
     /// What the value is, where it has the shape.
     ghost shape: { Data → Option Self };
@@ -16,6 +26,23 @@ pub(super) trait Shape {
     /// What the value is, or `None` where it has another shape or is out of range. An `Err` means out of memory.
     fn read(alloc: Global, value: &Value<'_, '_>) -> Result<Option<Self>, AllocError>
         ensures { IfOk result (λ found. found ≡ shape (view value.now)) };
+}
+
+impl<T: Plain> Shape for T {
+    ghost shape = { T.plain };
+
+    fn read(_alloc: Global, value: &Value<'_, '_>) -> Result<Option<T>, AllocError> {
+        Ok(T::from_value(value))
+    }
+}
+
+/// A value that stands for what may be absent.
+impl<T: Shape + Drop> Shape for Option<T> {
+    ghost shape = { λ d. option_map Some (T.shape d) };
+
+    fn read(alloc: Global, value: &Value<'_, '_>) -> Result<Option<Option<T>>, AllocError> {
+        Ok(T::read(alloc, value)?.map(Some))
+    }
 }
 
 /// A list of any length.

@@ -2,17 +2,15 @@
 
 ghost use Rattle.std.specs.Prelude.{◌≡◌, ◌∷◌, codes, if◌then◌else◌, Ok, Err, map, IfOk, IfErr, IfSome};
 ghost use Rattle.pgp_lines.specs.Value.{view};
-ghost use Rattle.pgp_lines.specs.LineFault.{line_fault_of};
+ghost use Rattle.pgp_lines.specs.LineFault.{IsRead};
 ghost use Rattle.pgp_lines.specs.Op.{inc_keys, op_keys, op_name, op_named};
 ghost use Rattle.pgp_lines.specs.Command.{values_of};
 
 use super::Command;
-use super::entries::read_entries;
 use super::fields::read_required;
 use super::format::{Format, judge_format};
 use super::incremental::read_inc;
-use super::info::read_info;
-use super::locate::read_locate;
+use super::reports::{read_entries, read_info, read_locate};
 use super::trace::read_trace;
 use super::value::Value;
 use pgp_ids::{Entry, TextFault};
@@ -98,9 +96,7 @@ impl Op {
         last: Format,
         format: Option<Format>,
     ) -> Result<Command, TextFault>
-        ensures ok { IfOk result (λ command. values_of self last format (view value.now) ≡ Ok command) }
-        ensures err { IfErr result
-            (λ fault. IfSome (line_fault_of fault) (λ f. values_of self last format (view value.now) ≡ Err f)) }
+        ensures { IsRead result (values_of self last format (view value.now)) }
     {
         match self {
             Op::Ask => {
@@ -112,18 +108,9 @@ impl Op {
                 judge_format(alloc, value, format)?;
                 Ok(Command::Submit(Entry::Close))
             }
-            Op::Entries => {
-                let report = read_entries(alloc, value, format)?;
-                Ok(Command::Submit(Entry::Entries(report)))
-            }
-            Op::Inc => {
-                let inc = read_inc(alloc, value, last, format)?;
-                Ok(Command::Submit(Entry::Inc(inc)))
-            }
-            Op::Info => {
-                let info = read_info(alloc, value, format)?;
-                Ok(Command::Submit(Entry::Info(info)))
-            }
+            Op::Entries => Ok(Command::Submit(Entry::Entries(read_entries(alloc, value, format)?))),
+            Op::Inc => Ok(Command::Submit(Entry::Inc(read_inc(alloc, value, last, format)?))),
+            Op::Info => Ok(Command::Submit(Entry::Info(read_info(alloc, value, format)?))),
             Op::Locate => {
                 let (pool, name) = read_locate(alloc, value, format)?;
                 Ok(Command::Locate { pool, name })

@@ -3,29 +3,13 @@ ghost use Rattle.std.specs.Prelude.{◌≡◌, map};
 ghost use Rattle.pgp_lines.specs.Value.{view};
 ghost use Rattle.pgp_lines.specs.Pools.{pool_keys, pool_kind_in, pool_in, pool_sizes_in, temp_in};
 
-use super::groups::read_groups;
-use super::lists::{Shape, read_triple};
-use super::numbers::{byte_at, number_at, read_byte, read_group, read_pool_id};
+use super::fields::read_at;
+use super::lists::{Plain, Shape, read_triple};
+use super::numbers::{read_group, read_number};
 use super::objects::has_only;
 use super::value::Value;
-use pgp_ids::{PoolKind, PoolSizes, PoolSpec, Seq, TempList};
+use pgp_ids::{PoolId, PoolKind, PoolSizes, PoolSpec, Seq, TempList};
 use std::alloc::{AllocError, Global};
-
-impl Shape for PoolSpec {
-    ghost shape = { pool_in };
-
-    fn read(_alloc: Global, value: &Value<'_, '_>) -> Result<Option<PoolSpec>, AllocError> {
-        Ok(read_pool(value))
-    }
-}
-
-impl Shape for PoolSizes {
-    ghost shape = { pool_sizes_in };
-
-    fn read(_alloc: Global, value: &Value<'_, '_>) -> Result<Option<PoolSizes>, AllocError> {
-        Ok(read_sizes(value))
-    }
-}
 
 /// `[pool, pg, list of devices or null]`, of any length.
 impl Shape for TempList {
@@ -46,23 +30,25 @@ impl Shape for TempList {
 }
 
 /// A pool: an object with all keys of its kind and no other.
-fn read_pool(value: &Value<'_, '_>) -> Option<PoolSpec>
-    ensures { result ≡ pool_in (view value.now) }
-{
-    let kind = read_kind(value)?;
-    if !has_only(value, pool_keys(&kind)) {
-        return None;
+impl Plain for PoolSpec {
+    ghost plain = { pool_in };
+
+    fn from_value(value: &Value<'_, '_>) -> Option<PoolSpec> {
+        let kind = read_kind(value)?;
+        if !has_only(value, pool_keys(&kind)) {
+            return None;
+        }
+        let id = read_at(value, "id")?;
+        let pg_num = read_number(&value.get("pg_num")?, 0, u64::from(u16::MAX))?;
+        Some(PoolSpec {
+            id,
+            pg_num: pg_num as u16,
+            kind,
+            size: read_at(value, "size")?,
+            min_size: read_at(value, "min_size")?,
+            leaf: read_at(value, "leaf")?,
+        })
     }
-    let id = read_pool_id(&value.get("id")?)?;
-    let pg_num = number_at(value, "pg_num", 0, u64::from(u16::MAX))?;
-    Some(PoolSpec {
-        id,
-        pg_num: pg_num as u16,
-        kind,
-        size: byte_at(value, "size")?,
-        min_size: byte_at(value, "min_size")?,
-        leaf: byte_at(value, "leaf")?,
-    })
 }
 
 /// The kind of a pool; an erasure pool has a number of data shards, a grouped one its parts.
@@ -73,11 +59,11 @@ pub(super) fn read_kind(value: &Value<'_, '_>) -> Option<PoolKind>
     match kind {
         "replicated" => Some(PoolKind::Replicated),
         "erasure" => {
-            let k = byte_at(value, "k")?;
+            let k = read_at(value, "k")?;
             Some(PoolKind::Erasure { k })
         }
         "grouped" => {
-            let groups = read_groups(&value.get("groups")?)?;
+            let groups = read_at(value, "groups")?;
             Some(PoolKind::Grouped { groups })
         }
         _ => None,
@@ -98,13 +84,15 @@ fn pool_keys(kind: &PoolKind) -> &'static [&'static str]
 }
 
 /// `[pool, size, min_size]`.
-fn read_sizes(value: &Value<'_, '_>) -> Option<PoolSizes>
-    ensures { result ≡ pool_sizes_in (view value.now) }
-{
-    let (pool, size, min_size) = read_triple(value)?;
-    Some(PoolSizes {
-        pool: read_pool_id(&pool)?,
-        size: read_byte(&size)?,
-        min_size: read_byte(&min_size)?,
-    })
+impl Plain for PoolSizes {
+    ghost plain = { pool_sizes_in };
+
+    fn from_value(value: &Value<'_, '_>) -> Option<PoolSizes> {
+        let (pool, size, min_size) = read_triple(value)?;
+        Some(PoolSizes {
+            pool: PoolId::from_value(&pool)?,
+            size: u8::from_value(&size)?,
+            min_size: u8::from_value(&min_size)?,
+        })
+    }
 }

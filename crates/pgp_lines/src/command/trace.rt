@@ -1,21 +1,20 @@
 //! The line of a trace: a code, and the epochs of one group.
-ghost use Rattle.std.specs.Prelude.{◌≡◌, Ok, Err, map, codes, IfOk, IfErr, IfSome};
+ghost use Rattle.std.specs.Prelude.{◌≡◌, map, codes, IfOk};
 ghost use Rattle.pgp_lines.specs.Value.{view};
-ghost use Rattle.pgp_lines.specs.LineFault.{line_fault_of};
+ghost use Rattle.pgp_lines.specs.LineFault.{IsRead};
 ghost use Rattle.pgp_lines.specs.Command.{trace_of};
-ghost use Rattle.pgp_lines.specs.Ids.{word_in};
 ghost use Rattle.pgp_lines.specs.Shapes.{field};
-ghost use Rattle.pgp_lines.specs.Trace.{code_keys, is_code, code_in, osds_in, sizes_in, facts_in, members_in, epoch_state_in, epochs_in};
+ghost use Rattle.pgp_lines.specs.Trace.{code_keys, is_code, code_in, osds_in, epoch_state_in, epochs_in};
 
 use super::Command;
-use super::faults::bad_field_fault;
+use super::fields::{or_bad_field, read_at};
 use super::format::{Format, judge_format, read_in};
-use super::numbers::{number_at, read_epoch, read_place};
+use super::numbers::{read_number, read_place};
 use super::objects::has_only;
 use super::pools::read_kind;
 use super::trail::Wanted;
 use super::value::Value;
-use pgp_ids::{Epoch, EpochState, Membership, Osds, PoolKind, PrimaryFacts, Seq, TextFault};
+use pgp_ids::{EpochState, Membership, Osds, PoolKind, PrimaryFacts, Seq, TextFault};
 use std::alloc::{AllocError, Global};
 
 const EPOCH_KEYS: [&str; 6] = ["acting", "min_size", "size", "up", "up_from", "up_thru"];
@@ -33,20 +32,15 @@ pub(super) fn read_trace(
     last: Format,
     format: Option<Format>,
 ) -> Result<Command, TextFault>
-    ensures ok { IfOk result (λ command. trace_of last format (view value.now) ≡ Ok command) }
-    ensures err { IfErr result
-        (λ fault. IfSome (line_fault_of fault) (λ f. trace_of last format (view value.now) ≡ Err f)) }
+    ensures { IsRead result (trace_of last format (view value.now)) }
 {
-    let Some(code) = read_code(value, read_in(last, format)) else {
-        return Err(bad_field_fault(alloc, "code"));
-    };
+    let found = read_code(value, read_in(last, format));
+    let code = or_bad_field(alloc, found, "code")?;
     let found = match value.get("epochs") {
         Some(epochs) => read_epochs(alloc, &epochs, code.is_by_place())?,
         None => None,
     };
-    let Some(epochs) = found else {
-        return Err(bad_field_fault(alloc, "epochs"));
-    };
+    let epochs = or_bad_field(alloc, found, "epochs")?;
     judge_format(alloc, value, format)?;
     Ok(Command::Trace { code, epochs })
 }
@@ -102,58 +96,31 @@ fn read_osds(value: &Value<'_, '_>, nulls: bool) -> Option<Osds>
     Some(osds)
 }
 
-/// One epoch: an object with all of [`EPOCH_KEYS`] and no other key.
+/// One epoch: an object with all of [`EPOCH_KEYS`] and no other key. It has 1 to 16 members and may serve with 1 to all of them;
+/// each primary is the first device of its list.
 fn read_epoch_state(value: &Value<'_, '_>, nulls: bool) -> Option<EpochState>
     ensures { result ≡ epoch_state_in nulls (view value.now) }
 {
     if !has_only(value, &EPOCH_KEYS) {
         return None;
     }
-    let facts = read_facts(value)?;
-    let members = read_members(value, nulls)?;
-    Some(EpochState { members, facts })
-}
-
-/// Whom the group has. Each primary is the first device of its list.
-fn read_members(value: &Value<'_, '_>, nulls: bool) -> Option<Membership>
-    ensures { result ≡ members_in nulls (view value.now) }
-{
-    let (size, min_size) = read_sizes(value)?;
+    let up_from = read_at(value, "up_from")?;
+    let up_thru = read_at(value, "up_thru")?;
+    let size = read_number(&value.get("size")?, 1, u64::from(MAX_SIZE))?;
+    let min_size = read_number(&value.get("min_size")?, 1, size)?;
     let up = read_osds(&value.get("up")?, nulls)?;
     let acting = read_osds(&value.get("acting")?, nulls)?;
-    Some(Membership {
-        up_primary: up.first(),
-        up,
-        acting_primary: acting.first(),
-        acting,
-        size,
-        min_size,
+    Some(EpochState {
+        members: Membership {
+            up_primary: up.first(),
+            up,
+            acting_primary: acting.first(),
+            acting,
+            size: size as u8,
+            min_size: min_size as u8,
+        },
+        facts: PrimaryFacts { up_from, up_thru },
     })
-}
-
-/// How many members a group has, 1 to 16, and with how many of them it may serve.
-fn read_sizes(value: &Value<'_, '_>) -> Option<(u8, u8)>
-    ensures { result ≡ sizes_in (view value.now) }
-{
-    let size = number_at(value, "size", 1, u64::from(MAX_SIZE))?;
-    let min_size = number_at(value, "min_size", 1, size)?;
-    Some((size as u8, min_size as u8))
-}
-
-/// What the map says of the primary.
-fn read_facts(value: &Value<'_, '_>) -> Option<PrimaryFacts>
-    ensures { result ≡ facts_in (view value.now) }
-{
-    let up_from = epoch_at(value, "up_from")?;
-    let up_thru = epoch_at(value, "up_thru")?;
-    Some(PrimaryFacts { up_from, up_thru })
-}
-
-/// The epoch at a key.
-fn epoch_at(value: &Value<'_, '_>, key: &'static str) -> Option<Epoch>
-    ensures { result ≡ field key.now word_in (view value.now) }
-{
-    read_epoch(&value.get(key)?)
 }
 
 /// The 1 to 4,096 epochs of a trace, the first of which is epoch 1. The bound is judged as the list is walked: a longer

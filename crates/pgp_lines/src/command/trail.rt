@@ -54,15 +54,6 @@ impl Trail {
         }
     }
 
-    /// The mark of the line itself.
-    pub(super) fn line(&self) -> Mark<'_> {
-        Mark {
-            trail: self,
-            depth: 0,
-            step: Step::Key(""),
-        }
-    }
-
     /// The place of the last look, and what isn't there.
     pub(super) fn words(&self, alloc: Global) -> Result<String, AllocError> {
         let look = self.last.get();
@@ -101,10 +92,11 @@ fn way_of(alloc: Global, steps: &[Step], len: usize) -> Result<String, AllocErro
     Ok(way)
 }
 
-/// The place of a value of which looks are kept.
+/// The place of a value.
 #[derive(Clone, Copy)]
 pub(super) struct Mark<'t> {
-    trail: &'t Trail,
+    /// Where looks are kept, if the line is read for the place of its fault.
+    trail: Option<&'t Trail>,
     /// How many steps it is from the line.
     depth: usize,
     /// The last of them.
@@ -112,6 +104,15 @@ pub(super) struct Mark<'t> {
 }
 
 impl<'t> Mark<'t> {
+    /// The mark of the line itself.
+    pub(super) fn line(trail: Option<&'t Trail>) -> Mark<'t> {
+        Mark {
+            trail,
+            depth: 0,
+            step: Step::Key(""),
+        }
+    }
+
     /// The place one step within.
     pub(super) fn within(self, step: Step) -> Mark<'t> {
         Mark {
@@ -124,12 +125,15 @@ impl<'t> Mark<'t> {
     /// Keeps that this is looked for here. Each value that it is in was looked at since any other beside it, so the steps before
     /// this one are those to it.
     pub(super) fn look(self, wanted: Wanted) {
-        let mut look = self.trail.last.get();
+        let Some(trail) = self.trail else {
+            return;
+        };
+        let mut look = trail.last.get();
         if let Some(step) = look.steps.get_mut(self.depth) {
             *step = self.step;
         }
         look.len = self.depth.saturating_add(1);
         look.wanted = wanted;
-        self.trail.last.set(look);
+        trail.last.set(look);
     }
 }

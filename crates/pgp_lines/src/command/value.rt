@@ -29,8 +29,7 @@ pub(super) type Tokens<'a> = Tape<'a, &'a Bump>;
 #[derive(Drop)]
 pub(super) struct Value<'t, 'a> {
     element: Element<'t, 'a>,
-    /// Where it is, if the line is read for the place of its fault.
-    mark: Option<Mark<'t>>,
+    mark: Mark<'t>,
 }
 
 impl<'t, 'a> Model for Value<'t, 'a> {
@@ -54,29 +53,21 @@ impl<'t, 'a> Value<'t, 'a> {
     pub(super) fn of(tokens: &'t Tokens<'a>, trail: Option<&'t Trail>) -> Value<'t, 'a>
         ensures { result ≡ tokens.now }
     {
-        let mark = match trail {
-            Some(trail) => Some(trail.line()),
-            None => None,
-        };
         Value {
             element: tokens.root(),
-            mark,
+            mark: Mark::line(trail),
         }
     }
 
     /// Says what is looked for here.
     pub(super) fn look(&self, wanted: Wanted) {
-        if let Some(mark) = self.mark {
-            mark.look(wanted);
-        }
+        self.mark.look(wanted);
     }
 
     /// Says what is looked for at a key.
     pub(super) fn look_at(&self, key: &'static str, wanted: Wanted) {
-        if let Some(mark) = self.mark {
-            mark.look(wanted);
-            mark.within(Step::Key(key)).look(wanted);
-        }
+        self.mark.look(wanted);
+        self.mark.within(Step::Key(key)).look(wanted);
     }
 
     /// The value at a key of an object; of one that stands there twice the last.
@@ -85,11 +76,10 @@ impl<'t, 'a> Value<'t, 'a> {
     {
         self.look_at(key, Wanted::Value);
         let element = self.element.get(key)?;
-        let mark = match self.mark {
-            Some(mark) => Some(mark.within(Step::Key(key))),
-            None => None,
-        };
-        Some(Value { element, mark })
+        Some(Value {
+            element,
+            mark: self.mark.within(Step::Key(key)),
+        })
     }
 
     pub(super) fn as_str(&self) -> Option<&'a str>
@@ -161,7 +151,7 @@ impl<'t, 'a> Value<'t, 'a> {
 pub(super) struct Items<'t, 'a> {
     items: json::Items<'t, 'a>,
     /// That of the array.
-    mark: Option<Mark<'t>>,
+    mark: Mark<'t>,
     /// How many have come.
     taken: usize,
 }
@@ -187,17 +177,12 @@ impl<'t, 'a> Items<'t, 'a> {
         ensures more { IfSome result (λ v. items_left self.old ≡ view v ∷ items_left self.new) }
         ensures shorter { OnSome result (length self.new < length self.old) }
     {
-        let mark = self.next_mark();
+        // Whether there is a next one is looked for in the array.
+        self.mark.look(Wanted::Words("a list of the right length"));
+        let mark = self.mark.within(Step::Item(self.taken));
         let element = self.items.next()?;
         self.taken = self.taken.saturating_add(1);
         Some(Value { element, mark })
-    }
-
-    /// The mark of the next item. Whether there is one is looked for in the array.
-    fn next_mark(&self) -> Option<Mark<'t>> {
-        let array = self.mark?;
-        array.look(Wanted::Words("a list of the right length"));
-        Some(array.within(Step::Item(self.taken)))
     }
 }
 

@@ -3,15 +3,16 @@
 
 ghost use Rattle.std.specs.Prelude.{◌≡◌, [], ◌∷◌, replicate, codes, Ok, Err, Some, None, true};
 ghost use Rattle.pgp_ids.specs.declared.entry.Entry.TheVariants.{Inc, Info, Close};
+ghost use Rattle.pgp_ids.specs.declared.pool.PoolKind.TheVariants.{Grouped};
 ghost use Rattle.pgp_lines.specs.LineFault.{unknown_key, bad_field};
 ghost use Rattle.pgp_lines.specs.Command.{command_of};
 ghost use Rattle.pgp_lines.specs.declared.command.format.Format.TheVariants.{Two};
-ghost use Rattle.pgp_lines.specs.WorkedLines.{part_of, pair_and_one, trace_with, grouped_trace_line, grouped_trace, inc_with, empty_inc, grouped_pool_line, grouped_pool_command, pool_line, grouped_with, parts_line, made_of_parts, info_with, first_info};
+ghost use Rattle.pgp_lines.specs.WorkedLines.{AreBad, close_of, part_of, pair_and_one, trace_with, grouped_trace_line, grouped_trace, inc_with, empty_inc, grouped_pool_line, coded_command, pool_line, grouped_with, parts_line, made_of_parts, info_with, first_info};
 ghost use Rattle.pgp_lines.specs.declared.command.Command.TheVariants.{Submit, Ask, Locate};
 
 /// A grouped pool, in the first map of a cluster.
 pub fn grouped_pool()
-    ensures { command_of Two grouped_pool_line ≡ Ok grouped_pool_command }
+    ensures { command_of Two grouped_pool_line ≡ Ok (coded_command (Grouped pair_and_one)) }
 {}
 
 /// The slots of a part may come in any order, and parts have the places in which they come. That a slot comes twice, that a
@@ -33,16 +34,12 @@ pub fn parts_of_pools()
 /// What are no parts of a pool: more than 16 of them, a slot that no member can have, more than 16 slots, a least number out
 /// of range, and other shapes.
 pub fn no_parts_of_pools()
-    ensures slot_16 { command_of Two (parts_line (codes "[[[16],1]]")) ≡ Err (bad_field (codes "pools")) }
-    ensures no_number { command_of Two (parts_line (codes "[[[null],1]]")) ≡ Err (bad_field (codes "pools")) }
-    ensures slots_17 { command_of Two (parts_line (codes "[[[0,0,0,0,0,0,0,0,0,0,0,0,0,0,0,0,0],1]]")) ≡ Err (bad_field (codes "pools")) }
-    ensures parts_17 { command_of Two (parts_line (codes "[[[],0],[[],0],[[],0],[[],0],[[],0],[[],0],[[],0],[[],0],[[],0],[[],0],[[],0],[[],0],[[],0],[[],0],[[],0],[[],0],[[],0]]"))
-        ≡ Err (bad_field (codes "pools")) }
-    ensures least_256 { command_of Two (parts_line (codes "[[[0],256]]")) ≡ Err (bad_field (codes "pools")) }
-    ensures no_least { command_of Two (parts_line (codes "[[[0]]]")) ≡ Err (bad_field (codes "pools")) }
-    ensures no_list { command_of Two (parts_line (codes "{}")) ≡ Err (bad_field (codes "pools")) }
+    ensures bad_pools { AreBad parts_line (codes "pools") (
+        codes "[[[16],1]]" ∷ codes "[[[null],1]]"
+        ∷ codes "[[[0,0,0,0,0,0,0,0,0,0,0,0,0,0,0,0,0],1]]"
+        ∷ codes "[[[],0],[[],0],[[],0],[[],0],[[],0],[[],0],[[],0],[[],0],[[],0],[[],0],[[],0],[[],0],[[],0],[[],0],[[],0],[[],0],[[],0]]"
+        ∷ codes "[[[0],256]]" ∷ codes "[[[0]]]" ∷ codes "{}" ∷ codes "[[[0],1]],\"k\":1" ∷ []) }
     ensures absent { command_of Two (pool_line (codes "\"v\":2,") (codes "\"kind\":\"grouped\"")) ≡ Err (bad_field (codes "pools")) }
-    ensures k { command_of Two (parts_line (codes "[[[0],1]],\"k\":1")) ≡ Err (bad_field (codes "pools")) }
     ensures of_erasure { command_of Two (pool_line (codes "\"v\":2,") (codes "\"kind\":\"erasure\",\"k\":2,\"groups\":[[[0],1]]"))
         ≡ Err (bad_field (codes "pools")) }
 {}
@@ -67,14 +64,10 @@ pub fn grouped_traces()
 /// What is no grouped code of a trace: here it is also bad that a slot comes twice, in one part or in two, that there is no
 /// part or one without slots, and a least number that isn't 1 to the number of slots.
 pub fn no_grouped_code()
-    ensures shared_slot { command_of Two (grouped_trace_line (codes "[[[0,1],1],[[1],1]]")) ≡ Err (bad_field (codes "code")) }
-    ensures slot_twice { command_of Two (grouped_trace_line (codes "[[[0,0],1]]")) ≡ Err (bad_field (codes "code")) }
-    ensures slot_16 { command_of Two (grouped_trace_line (codes "[[[16],1]]")) ≡ Err (bad_field (codes "code")) }
-    ensures no_part { command_of Two (grouped_trace_line (codes "[]")) ≡ Err (bad_field (codes "code")) }
-    ensures no_slot { command_of Two (grouped_trace_line (codes "[[[0],1],[[],0]]")) ≡ Err (bad_field (codes "code")) }
-    ensures least_0 { command_of Two (grouped_trace_line (codes "[[[0],0]]")) ≡ Err (bad_field (codes "code")) }
-    ensures least_above { command_of Two (grouped_trace_line (codes "[[[0,1],3]]")) ≡ Err (bad_field (codes "code")) }
-    ensures k { command_of Two (grouped_trace_line (codes "[[[0],1]],\"k\":1")) ≡ Err (bad_field (codes "code")) }
+    ensures bad_code { AreBad grouped_trace_line (codes "code") (
+        codes "[[[0,1],1],[[1],1]]" ∷ codes "[[[0,0],1]]" ∷ codes "[[[16],1]]" ∷ codes "[]"
+        ∷ codes "[[[0],1],[[],0]]" ∷ codes "[[[0],0]]" ∷ codes "[[[0,1],3]]"
+        ∷ codes "[[[0],1]],\"k\":1" ∷ []) }
     ensures absent { command_of Two (trace_with (codes "\"v\":2,") (codes "{\"kind\":\"grouped\"}")) ≡ Err (bad_field (codes "code")) }
     ensures of_erasure { command_of Two (trace_with (codes "\"v\":2,") (codes "{\"kind\":\"erasure\",\"k\":1,\"groups\":[[[0],1]]}"))
         ≡ Err (bad_field (codes "code")) }
@@ -96,11 +89,8 @@ pub fn versions()
 /// What is no version. It is one bad key among the others, of which the least is named: only an incremental has a key after
 /// it. The others are read as in version 2.
 pub fn no_version()
-    ensures zero { command_of Two (codes "{\"op\":\"close\",\"v\":0}") ≡ Err (bad_field (codes "v")) }
-    ensures three { command_of Two (codes "{\"op\":\"close\",\"v\":3}") ≡ Err (bad_field (codes "v")) }
-    ensures text { command_of Two (codes "{\"op\":\"close\",\"v\":\"2\"}") ≡ Err (bad_field (codes "v")) }
-    ensures fraction { command_of Two (codes "{\"op\":\"close\",\"v\":2.0}") ≡ Err (bad_field (codes "v")) }
-    ensures null { command_of Two (codes "{\"op\":\"close\",\"v\":null}") ≡ Err (bad_field (codes "v")) }
+    ensures bad_v { AreBad close_of (codes "v") (
+        codes "0" ∷ codes "3" ∷ codes "\"2\"" ∷ codes "2.0" ∷ codes "null" ∷ []) }
     ensures after_pg { command_of Two (codes "{\"op\":\"ask\",\"pg\":[0,0],\"v\":3}") ≡ Err (bad_field (codes "pg")) }
     ensures after_an_absent_key { command_of Two (codes "{\"op\":\"locate\",\"name\":\"a\",\"v\":3}") ≡ Err (bad_field (codes "pool")) }
     ensures after_up_thru { command_of Two (inc_with (codes "\"v\":3,\"up_thru\":0")) ≡ Err (bad_field (codes "up_thru")) }

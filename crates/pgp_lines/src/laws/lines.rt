@@ -1,12 +1,12 @@
 //! Worked lines: faults, and traces.
 #![tactic(auto, unfolding(crate::specs::WorkedLines::text_computed))]
 
-ghost use Rattle.std.specs.Prelude.{◌≡◌, replicate, codes, Ok, Err};
+ghost use Rattle.std.specs.Prelude.{◌≡◌, [], ◌∷◌, replicate, codes, Ok, Err};
 ghost use Rattle.pgp_lines.specs.LineFault.{not_json, no_op, unknown_key, bad_field};
 ghost use Rattle.pgp_ids.specs.declared.entry.Entry.TheVariants.{Info, Entries};
 ghost use Rattle.pgp_lines.specs.Command.{command_of};
 ghost use Rattle.pgp_lines.specs.declared.command.format.Format.TheVariants.{Two};
-ghost use Rattle.pgp_lines.specs.WorkedLines.{nested, close_with, trace_line, trace_command, erasure_line, erasure_command, info_with, info_line, first_info, edges_of_info_line, edges_of_info, entries_line, two_entries};
+ghost use Rattle.pgp_lines.specs.WorkedLines.{AreBad, nested, close_with, trace_line, trace_command, erasure_line, erasure_command, info_with, info_line, first_info, edges_of_info_line, edges_of_info, entries_line, two_entries};
 ghost use Rattle.pgp_lines.specs.declared.command.Command.TheVariants.{Submit, Ask, Locate};
 
 /// What is no JSON text: one that is cut short, one with bytes behind it, a number that overflows, and no text at all.
@@ -67,10 +67,9 @@ pub fn reports()
 
 /// What is no last_epoch_clean. It comes before last_update in byte order, and after history_les; and only an info has it.
 pub fn no_clean_epoch()
-    ensures too_large { command_of Two (info_with (codes ",\"last_epoch_clean\":4294967296")) ≡ Err (bad_field (codes "last_epoch_clean")) }
-    ensures fraction { command_of Two (info_with (codes ",\"last_epoch_clean\":1.0")) ≡ Err (bad_field (codes "last_epoch_clean")) }
-    ensures null { command_of Two (info_with (codes ",\"last_epoch_clean\":null")) ≡ Err (bad_field (codes "last_epoch_clean")) }
-    ensures before_last_update { command_of Two (info_with (codes ",\"last_epoch_clean\":null,\"last_update\":0")) ≡ Err (bad_field (codes "last_epoch_clean")) }
+    ensures bad_last_epoch_clean { AreBad info_with (codes "last_epoch_clean") (
+        codes ",\"last_epoch_clean\":4294967296" ∷ codes ",\"last_epoch_clean\":1.0"
+        ∷ codes ",\"last_epoch_clean\":null" ∷ codes ",\"last_epoch_clean\":null,\"last_update\":0" ∷ []) }
     ensures after_history_les { command_of Two (info_with (codes ",\"last_epoch_clean\":null,\"history_les\":null")) ≡ Err (bad_field (codes "history_les")) }
     ensures of_entries { command_of Two (codes "{\"op\":\"entries\",\"last_epoch_clean\":0}") ≡ Err (unknown_key (codes "last_epoch_clean")) }
 {}

@@ -3,7 +3,7 @@ use Rattle.pgp_ids.specs.declared.part.Part.{Part}
 use Rattle.pgp_lines.specs.Groups.{part_in, places_of, groups_in}
 use Rattle.pgp_lines.specs.Value.{view, items_left}
 use Rattle.pgp_lines.proofs.Walks.{list_after}
-use Rattle.pgp_lines.proofs.command.groups.read_groups.Given as goal
+use Rattle.pgp_lines.proofs.command.groups.PartsPlain.from_value.Given as goal
 
 -- the first places hold the parts that were found
 abbrev pub invariant-loop-item : goal.invariant-loop-item

@@ -5,7 +5,7 @@ use Rattle.pgp_lines.specs.Ids.{pool_id_in, byte_in}
 use Rattle.pgp_lines.specs.Pools.{pool_keys, pool_kind_in, pool_in}
 use Rattle.pgp_lines.specs.Shapes.{field, number_in, has_only}
 use Rattle.pgp_lines.specs.Value.{view}
-use Rattle.pgp_lines.proofs.command.pools.read_pool.Goals as goal
+use Rattle.pgp_lines.proofs.command.pools.PoolSpecPlain.from_value.Goals as goal
 
 -- a pool by its fields
 made : (d : Data) (kind : PoolKind) (id pg_num size min_size leaf : ℕ) → Some kind ≡ pool_kind_in d → has_only (pool_keys kind) d ≡ true
@@ -19,6 +19,5 @@ pub returns : goal.returns
 returns c =
     let d = view c.args.value.now in
     let only = ap (λ keys. has_only keys d) (sym c.pool_keys.ensures) ∙ sym c.if-not-has_only.ensures in
-    let id = c.in_ok-id.ensures ∙ ap (λ o. option_and_then pool_id_in o) c.in_ok-get.ensures in
-    let number = rw c.from.ensures at c.in_ok-pg_num.ensures.value in
-    made d _ _ _ _ _ _ c.in_ok-kind.ensures only id number c.in_ok-byte_at.ensures c.in_ok-byte_at-2.ensures c.in_ok-byte_at-3.ensures
+    let number = (rw c.from.ensures at c.in_ok-pg_num.ensures.value) ∙ ap (λ o. option_and_then (number_in 0 65535) o) c.in_ok-get.ensures in
+    made d _ _ _ _ _ _ c.in_ok-kind.ensures only c.in_ok-id.ensures number c.in_ok-read_at.ensures c.in_ok-read_at-2.ensures c.in_ok-read_at-3.ensures

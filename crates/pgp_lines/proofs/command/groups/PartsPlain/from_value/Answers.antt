@@ -6,7 +6,7 @@ use Rattle.pgp_ids.specs.declared.part.Part.{Part}
 use Rattle.pgp_lines.specs.Groups.{part_in, places_of, groups_in}
 use Rattle.pgp_lines.specs.Value.{view, items_left}
 use Rattle.pgp_lines.proofs.Walks.{list_after, list_after-next, list_after-end}
-use Rattle.pgp_lines.proofs.command.groups.read_groups.Goals as goal
+use Rattle.pgp_lines.proofs.command.groups.PartsPlain.from_value.Goals as goal
 
 abbrev full : List Part → List (Option Part)
 full parts = map (λ part. Some part) parts
