@@ -6,5 +6,4 @@ pub mod Asked
 pub mod Reply
 pub mod Written
 pub mod Versions
-pub mod Parts
 pub mod WorkedReplies

@@ -2,12 +2,10 @@
 ghost use Rattle.std.specs.Prelude.{◌≡◌, ◌++◌, [], IfOk, OnOk, OnErr};
 ghost use Rattle.json.specs.Print.{print};
 ghost use Rattle.pgp_text.specs.Reply.{accepted_data, located_data, traced_data, reply_data, reply_text};
-ghost use Rattle.pgp_text.specs.Parts.{place_fields};
-ghost use Rattle.pgp_text.specs.Written.{tokens_of, fields_tokens};
+ghost use Rattle.pgp_text.specs.Written.{tokens_of};
 ghost use Rattle.pgp_text.specs.declared.reply.Reply.TheVariants.{Asked};
 
 mod asked;
-mod devices;
 mod entry_op;
 mod intervals;
 mod line_refusal;
@@ -15,7 +13,6 @@ mod parts;
 mod peers;
 
 use asked::write_asked;
-use devices::{write_acting, write_up};
 pub use entry_op::EntryOp;
 use json::Writer;
 pub use line_refusal::LineRefusal;
@@ -166,7 +163,6 @@ fn write_accepted(
     out.end_object()
 }
 
-#[tactic(auto, using(crate::proofs::Tokens::token_steps))]
 fn write_located(
     alloc: Global,
     out: &mut Writer,
@@ -179,22 +175,14 @@ fn write_located(
     ensures before { out.new.before ≡ out.old.before }
 {
     out.begin_object()?;
-    write_acting(alloc, out, &members.acting, members.acting_primary)?;
-    write_place(alloc, out, pg, epoch)?;
-    write_up(alloc, out, &members.up, members.up_primary)?;
-    out.end_object()
-}
-
-/// The group, and the epoch of the map that says where it lies.
-#[tactic(auto, using(crate::proofs::Tokens::token_steps))]
-fn write_place(alloc: Global, out: &mut Writer, pg: PgId, epoch: Epoch) -> Result<(), AllocError>
-    ensures ok { OnOk result
-        (out.new.tokens ≡ out.old.tokens ++ fields_tokens (place_fields pg epoch)) }
-    ensures before { out.new.before ≡ out.old.before }
-{
+    write_field(out, alloc, "acting", &members.acting)?;
+    write_field(out, alloc, "acting_primary", &members.acting_primary)?;
     write_field(out, alloc, "epoch", &epoch)?;
     write_field(out, alloc, "ok", &Op::Locate.name())?;
-    write_field(out, alloc, "pg", &pg)
+    write_field(out, alloc, "pg", &pg)?;
+    write_field(out, alloc, "up", &members.up)?;
+    write_field(out, alloc, "up_primary", &members.up_primary)?;
+    out.end_object()
 }
 
 fn write_traced(

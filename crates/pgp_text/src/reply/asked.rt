@@ -1,10 +1,8 @@
 //! All that is known of a group as JSON.
 ghost use Rattle.std.specs.Prelude.{◌≡◌, ◌++◌, OnOk};
 ghost use Rattle.pgp_text.specs.Asked.{asked_data};
-ghost use Rattle.pgp_text.specs.Parts.{history_fields, peer_fields};
-ghost use Rattle.pgp_text.specs.Written.{tokens_of, fields_tokens};
+ghost use Rattle.pgp_text.specs.Written.{tokens_of};
 
-use super::devices::{write_acting, write_up};
 use super::parts::write_field;
 use json::Writer;
 use pgp_ids::{Epoch, PgId, View};
@@ -25,44 +23,21 @@ pub(super) fn write_asked(
     ensures before { out.new.before ≡ out.old.before }
 {
     out.begin_object()?;
-    write_acting(alloc, out, &known.acting, known.acting_primary)?;
+    write_field(out, alloc, "acting", &known.acting)?;
+    write_field(out, alloc, "acting_primary", &known.acting_primary)?;
     write_field(out, alloc, "best", &known.best)?;
     write_field(out, alloc, "blocked_by", &known.blocked_by)?;
-    write_history(alloc, out, known, count, epoch)?;
-    write_peers(alloc, out, pg, known)?;
-    write_up(alloc, out, &known.up, known.up_primary)?;
-    write_field(out, alloc, "verdict", &known.verdict.name())?;
-    out.end_object()
-}
-
-/// What the log had come to, and what was before.
-fn write_history(
-    alloc: Global,
-    out: &mut Writer,
-    known: &View,
-    count: usize,
-    epoch: Epoch,
-) -> Result<(), AllocError>
-    ensures ok { OnOk result (out.new.tokens
-        ≡ out.old.tokens ++ fields_tokens (history_fields (record known.now { count = count; epoch = epoch }))) }
-    ensures before { out.new.before ≡ out.old.before }
-{
     write_field(out, alloc, "count", &count)?;
     write_field(out, alloc, "epoch", &epoch)?;
     write_field(out, alloc, "first", &known.first)?;
     write_field(out, alloc, "intervals", &known.intervals)?;
-    write_field(out, alloc, "les", &known.les)
-}
-
-/// What the peers lack, and who has to be heard.
-#[tactic(auto, using(crate::proofs::Tokens::token_steps))]
-fn write_peers(alloc: Global, out: &mut Writer, pg: PgId, known: &View) -> Result<(), AllocError>
-    ensures ok { OnOk result
-        (out.new.tokens ≡ out.old.tokens ++ fields_tokens (peer_fields pg known.now)) }
-    ensures before { out.new.before ≡ out.old.before }
-{
+    write_field(out, alloc, "les", &known.les)?;
     write_field(out, alloc, "missing", &known.missing)?;
     write_field(out, alloc, "ok", &Op::Ask.name())?;
     write_field(out, alloc, "pg", &pg)?;
-    write_field(out, alloc, "probe", &known.probe)
+    write_field(out, alloc, "probe", &known.probe)?;
+    write_field(out, alloc, "up", &known.up)?;
+    write_field(out, alloc, "up_primary", &known.up_primary)?;
+    write_field(out, alloc, "verdict", &known.verdict.name())?;
+    out.end_object()
 }

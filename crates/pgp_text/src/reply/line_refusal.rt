@@ -1,11 +1,8 @@
 //! Refusals, and how they are written.
-ghost use Rattle.std.specs.Prelude.{◌≡◌, ◌++◌, codes, option_map, OnOk};
-ghost use Rattle.serde_json.specs.Data.{string};
-ghost use Rattle.pgp_text.specs.Json.{number_data};
-ghost use Rattle.pgp_text.specs.LineRefusal.{fault_name, fault_key, field_if, refused_number, refused_name, refused_key, refused_tree, refused_data};
-ghost use Rattle.pgp_text.specs.Written.{fields_tokens};
+ghost use Rattle.std.specs.Prelude.{◌≡◌, option_map};
+ghost use Rattle.pgp_text.specs.LineRefusal.{fault_name, fault_key, refused_number, refused_name, refused_key, refused_tree, refused_data};
 
-use super::parts::{Json, write_field};
+use super::parts::{Json, write_field, write_field_if};
 use json::Writer;
 use pgp_ids::{AskRefusal, LocateRefusal, Refusal, TextFault};
 use std::alloc::{AllocError, Global};
@@ -100,35 +97,9 @@ impl Json<Global> for LineRefusal {
     fn write(&self, out: &mut Writer, alloc: Global) -> Result<(), AllocError> {
         out.begin_object()?;
         write_field(out, alloc, "code", &self.number())?;
-        write_key(alloc, out, self)?;
+        write_field_if(out, alloc, "key", &self.key())?;
         write_field(out, alloc, "refused", &self.name())?;
-        write_tree(alloc, out, self)?;
+        write_field_if(out, alloc, "tree", &self.tree())?;
         out.end_object()
-    }
-}
-
-/// Writes the key, where one is named.
-#[tactic(auto, unfolding(crate::specs::Written::fields_tokens))]
-fn write_key(alloc: Global, out: &mut Writer, refused: &LineRefusal) -> Result<(), AllocError>
-    ensures ok { OnOk result (out.new.tokens ≡ out.old.tokens
-        ++ fields_tokens (field_if (codes "key") string (refused_key refused.now))) }
-    ensures before { out.new.before ≡ out.old.before }
-{
-    match refused.key() {
-        Some(key) => write_field(out, alloc, "key", &key),
-        None => Ok(()),
-    }
-}
-
-/// Writes the tree's fault, where that is the refusal.
-#[tactic(auto, unfolding(crate::specs::Written::fields_tokens))]
-fn write_tree(alloc: Global, out: &mut Writer, refused: &LineRefusal) -> Result<(), AllocError>
-    ensures ok { OnOk result (out.new.tokens ≡ out.old.tokens
-        ++ fields_tokens (field_if (codes "tree") number_data (refused_tree refused.now))) }
-    ensures before { out.new.before ≡ out.old.before }
-{
-    match refused.tree() {
-        Some(tree) => write_field(out, alloc, "tree", &tree),
-        None => Ok(()),
     }
 }

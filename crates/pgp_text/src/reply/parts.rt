@@ -2,6 +2,7 @@
 ghost use Rattle.std.specs.Prelude.{◌≡◌, ℕ, [], ◌∷◌, ◌++◌, OnOk};
 ghost use Rattle.serde_json.specs.Data.{Data, string, boolean};
 ghost use Rattle.pgp_text.specs.Json.{number_data, list_data, option_data};
+ghost use Rattle.pgp_text.specs.LineRefusal.{field_if};
 ghost use Rattle.pgp_text.specs.Answered.{pair_data, group_data, member_data, place_data};
 ghost use Rattle.pgp_text.specs.Written.{tokens_of, fields_tokens};
 
@@ -194,4 +195,22 @@ pub fn write_field<N: EpochNumbers, T: Json<N>>(
 {
     out.key(key)?;
     value.write(out, numbers)
+}
+
+/// Writes a field of the object that is open, where there is a value for it.
+#[tactic(auto, unfolding(crate::specs::Written::fields_tokens))]
+pub(super) fn write_field_if<N: EpochNumbers, T: Json<N>>(
+    out: &mut Writer,
+    numbers: N,
+    key: &str,
+    value: &Option<T>,
+) -> Result<(), AllocError>
+    ensures ok { OnOk result
+        (out.new.tokens ≡ out.old.tokens ++ fields_tokens (field_if key.now (T.value numbers) value.now)) }
+    ensures before { out.new.before ≡ out.old.before }
+{
+    match value {
+        Some(value) => write_field(out, numbers, key, value),
+        None => Ok(()),
+    }
 }

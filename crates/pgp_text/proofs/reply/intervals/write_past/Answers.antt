@@ -1,6 +1,0 @@
-use Rattle.std.proofs.lemmas.Result.{on_ok_weaker}
-use Rattle.pgp_text.proofs.Tokens.{fields_then}
-use Rattle.pgp_text.proofs.reply.intervals.write_past.Goals as goal
-
-pub returns-clause-ok : goal.returns-clause-ok
-returns-clause-ok c = on_ok_weaker c.write_field-5.result (λ e. fields_then _ _ _ _ _ (fields_then _ _ _ _ _ (fields_then _ _ _ _ _ (fields_then _ _ _ _ _ c.in_ok-write_field.ensures.ok c.in_ok-write_field-2.ensures.ok) c.in_ok-write_field-3.ensures.ok) c.in_ok-write_field-4.ensures.ok) e) c.write_field-5.ensures.ok
