@@ -7,18 +7,10 @@ use pgp_text::ReplyWriter;
 use std::alloc::Global;
 
 /// Reads lines and writes replies.
+#[derive(Drop)]
 pub struct Codec {
     pub reader: LineReader,
     pub writer: ReplyWriter,
-}
-
-impl Drop for Codec {
-    fn drop(self) {
-        let Codec {
-            reader: _,
-            writer: _,
-        } = self;
-    }
 }
 
 impl Codec {

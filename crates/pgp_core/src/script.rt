@@ -24,20 +24,11 @@ use std::alloc::Global;
 const CHUNK: usize = 65536;
 
 /// A script that is being answered.
+#[derive(Drop)]
 pub struct Script {
     pub input: Input,
     pub output: Output,
     pub codec: Codec,
-}
-
-impl Drop for Script {
-    fn drop(self) {
-        let Script {
-            input: _,
-            output: _,
-            codec: _,
-        } = self;
-    }
 }
 
 impl Script {
