@@ -268,18 +268,22 @@ class Trial:
             raise Wrong(f"{place} says {run.errors[-500:]!r} and not {said!r}, or lacks a line feed", given, run.out, b"")
         for wrong in wrong_lines(found, kept):
             raise Wrong(f"{place}: {wrong}", given, run.out, text_of([line for _, line in kept]))
-        self.count(taken, [json.loads(line) for _, line in kept], found)
+        most = self.count(taken, [json.loads(line) for _, line in kept], found)
+        after = sum(b'"op":"inc"' in line for line in found)
+        if after > most:
+            raise Wrong(f"{place}: {after} incrementals are left, and {most} are enough", given, run.out, b"")
         return found
 
-    def count(self, taken: compact.Taken, kept: List[Any], found: List[bytes]) -> None:
-        """Counts how many incrementals were joined, and how many could be."""
+    def count(self, taken: compact.Taken, kept: List[Any], found: List[bytes]) -> int:
+        """Counts how many incrementals were joined, and how many could be. How many are enough."""
         before, after = sum(it["op"] == "inc" for it in kept), sum(b'"op":"inc"' in line for line in found)
         self.sums.update({"joins": 1, "before": before, "after": after, "entries before": len(taken.lines), "entries after": len(found)})
-        if sum(it["pg_num"] for it in taken.log.maps.made.values()) <= MOST_GROUPS:
-            least, most = len(joining.starts_of(taken.log, kept)), joining.most_starts(taken.log)
-            self.sums.update({"told": 1, "told before": before, "told after": after, "least": least})
-            self.sums["not joined"] += int(after == before > least)
-            self.sums.update({"more": int(after > least), "beyond": int(after > most)})
+        if sum(it["pg_num"] for it in taken.log.maps.made.values()) > MOST_GROUPS:
+            return before
+        least = len(joining.starts_of(taken.log, kept))
+        self.sums.update({"told": 1, "told before": before, "told after": after, "least": least})
+        self.sums.update({"not joined": int(after == before > least), "more": int(after > least)})
+        return joining.most_starts(taken.log)
 
     def answers(self, it: Cut, front: List[bytes]) -> None:
         """What stays is accepted, and what comes after is answered as in the whole script; raises Wrong."""
@@ -342,13 +346,13 @@ class Figures(compact.Figures):
 
 SUMS = (
     "runs", "refused", "joins", "before", "after", "entries before", "entries after", "told", "told before", "told after", "least",
-    "not joined", "more", "beyond", "views", "other", "scripts", "lines", "answers", "explanations", "wrong",
+    "not joined", "more", "views", "other", "scripts", "lines", "answers", "explanations", "wrong",
 )  # fmt: skip
 TOLD = (
     "The program was started {runs} times; {refused} lines were refused. {entries_after} of {entries_before} entries were left.",
     "Of {views} views after a join {other} have other past intervals that no longer matter.",
     "In {told} joins the model leaves {least} incrementals where the program leaves {told_after} of {told_before}. It left more in "
-    "{more}, all in {not_joined}, and more than the first epochs of intervals and three a device in {beyond}.",
+    "{more}, all in {not_joined}.",
     "{scripts} scripts, {lines} lines, {joins} joins which left {after} of {before} incrementals, {answers} answers after them, "
     "{explanations} explanations, {wrong} wrong",
 )

@@ -1,47 +1,43 @@
 //! One incremental in place of a run of them.
 
-use super::named::Named;
+use super::starts::Placed;
 use pgp_ids::{
     DeviceEpoch, DeviceWeight, Epoch, Incremental, OsdId, PgId, PoolId, PoolKind, PoolSizes,
     PoolSpec, Seq, TempList,
 };
 use pgp_map::{OsdMap, copied_buckets};
 use std::alloc::{AllocError, Global};
+use std::collections::HashSet;
 
 /// What a run leads from and to.
 #[derive(Clone, Copy)]
 pub(crate) struct Run<'a> {
+    /// Its incrementals.
+    pub incs: &'a [Placed<'a>],
+    /// The devices that ever boot.
+    pub devices: &'a [OsdId],
     /// The map before the incremental that is made.
     pub before: &'a OsdMap,
     /// The map of the log at the end of the run.
     pub after: &'a OsdMap,
-    /// The epoch of the run's first incremental.
-    pub epoch: Epoch,
-    /// Whether devices are destroyed in it that are so at its end.
-    pub destroys: bool,
+    /// Whether it is the last run. Devices are destroyed in that one alone.
+    pub is_last: bool,
 }
 
 impl Run<'_> {
-    /// The incremental that leads from the one map to the other, as far as it can be told yet.
-    pub fn inc(&self, alloc: Global, named: &Named<'_>) -> Result<Incremental, AllocError> {
-        let mut inc = empty(alloc, self.before.epoch(), self.epoch);
-        for number in 0..OsdId::MAX + 1 {
-            if let Some(osd) = OsdId::new(number) {
-                self.put_device(&mut inc, osd)?;
-            }
+    /// The incremental in this epoch that leads from the one map to the other, as far as it can be told yet.
+    pub fn inc(&self, alloc: Global, epoch: Epoch) -> Result<Incremental, AllocError> {
+        let mut inc = empty(alloc, self.before.epoch(), epoch);
+        for osd in self.devices {
+            self.put_device(&mut inc, *osd)?;
         }
         for number in 1..=u8::MAX {
-            if let Some(pool) = PoolId::new(number) {
-                self.put_pool(&mut inc, pool)?;
+            if let Some(id) = PoolId::new(number) {
+                self.put_pool(&mut inc, id)?;
             }
         }
-        for pg in named.groups() {
-            self.put_temp(alloc, &mut inc, pg)?;
-        }
-        if let Some(tree) = named.tree {
-            let buckets = copied_buckets(alloc, tree.as_slice())?;
-            inc.crush = Some(Seq::from_vec(buckets));
-        }
+        self.put_temps(alloc, &mut inc)?;
+        self.put_tree(alloc, &mut inc)?;
         Ok(inc)
     }
 
@@ -55,12 +51,11 @@ impl Run<'_> {
         if was_up && !is_up {
             inc.down.push(osd)?;
         }
-        let is_gone = self.before.exists(osd) && !self.after.exists(osd);
-        if is_gone && !was_up && self.destroys {
-            inc.gone.push(osd)?;
-        }
         if !self.before.exists(osd) && !is_up {
             return Ok(());
+        }
+        if self.is_last && !self.after.exists(osd) {
+            inc.gone.push(osd)?;
         }
         let weight = self.after.weight(osd);
         if weight != self.before.weight(osd) {
@@ -71,47 +66,71 @@ impl Run<'_> {
 
     /// Puts in the device's up_thru, and when it was given up for lost, where the epoch of the incremental allows it.
     fn put_epochs(&self, inc: &mut Incremental, osd: OsdId, is_up: bool) -> Result<(), AllocError> {
-        let up_thru = self.after.up_thru(osd);
-        let told = if up_thru <= self.epoch {
-            up_thru
-        } else {
-            self.epoch
-        };
-        if self.before.up_thru(osd) < told {
-            inc.up_thru.push(DeviceEpoch { osd, epoch: told })?;
+        let epoch = self.after.up_thru(osd).min(inc.epoch);
+        if self.before.up_thru(osd) < epoch {
+            inc.up_thru.push(DeviceEpoch { osd, epoch })?;
         }
-        let lost_at = self.after.lost_at(osd);
-        if lost_at != self.before.lost_at(osd) && !is_up && lost_at <= self.epoch {
-            inc.lost.push(DeviceEpoch {
-                osd,
-                epoch: lost_at,
-            })?;
+        let epoch = self.after.lost_at(osd);
+        if epoch != self.before.lost_at(osd) && !is_up && epoch <= inc.epoch {
+            inc.lost.push(DeviceEpoch { osd, epoch })?;
         }
         Ok(())
     }
 
-    /// Puts in the pool, or its sizes.
+    /// Puts in the pool, or its sizes where they are new.
     fn put_pool(&self, inc: &mut Incremental, id: PoolId) -> Result<(), AllocError> {
         let Some(pool) = self.after.pool(id) else {
             return Ok(());
         };
-        match self.before.pool(id) {
-            None => push_pool(&mut inc.pools, &pool),
-            Some(old) => push_sizes(&mut inc.sizes, &old, &pool),
+        let Some(old) = self.before.pool(id) else {
+            return push_pool(&mut inc.pools, &pool);
+        };
+        if old.size == pool.size && old.min_size == pool.min_size {
+            return Ok(());
         }
+        inc.sizes.push(PoolSizes {
+            pool: id,
+            size: pool.size,
+            min_size: pool.min_size,
+        })
     }
 
-    /// Puts in the group's pg_temp list.
-    fn put_temp(&self, alloc: Global, inc: &mut Incremental, pg: &PgId) -> Result<(), AllocError> {
-        let list = self.after.temp(*pg);
-        if list == self.before.temp(*pg) {
+    /// Puts in the pg_temp lists of the groups that the run names.
+    fn put_temps(&self, alloc: Global, inc: &mut Incremental) -> Result<(), AllocError> {
+        let mut known = HashSet::new(alloc);
+        for it in self.incs {
+            for temp in it.inc.temp.as_slice() {
+                if known.insert(temp.pg)? {
+                    self.put_temp(alloc, inc, temp.pg)?;
+                }
+            }
+        }
+        Ok(())
+    }
+
+    fn put_temp(&self, alloc: Global, inc: &mut Incremental, pg: PgId) -> Result<(), AllocError> {
+        let list = self.after.temp(pg);
+        if list == self.before.temp(pg) {
             return Ok(());
         }
         let mut osds = Seq::new(alloc);
         for place in list {
             osds.push(*place)?;
         }
-        inc.temp.push(TempList { pg: *pg, osds })
+        inc.temp.push(TempList { pg, osds })
+    }
+
+    /// Puts in the last tree that the run gives.
+    fn put_tree(&self, alloc: Global, inc: &mut Incremental) -> Result<(), AllocError> {
+        let mut last = None;
+        for it in self.incs {
+            last = it.inc.crush.as_ref().or(last);
+        }
+        if let Some(tree) = last {
+            let buckets = copied_buckets(alloc, tree.as_slice())?;
+            inc.crush = Some(Seq::from_vec(buckets));
+        }
+        Ok(())
     }
 }
 
@@ -142,21 +161,5 @@ fn push_pool(pools: &mut Seq<PoolSpec>, pool: &PoolSpec) -> Result<(), AllocErro
         size: pool.size,
         min_size: pool.min_size,
         leaf: pool.leaf,
-    })
-}
-
-/// Tells of the pool's sizes, where they are new.
-fn push_sizes(
-    sizes: &mut Seq<PoolSizes>,
-    old: &PoolSpec,
-    pool: &PoolSpec,
-) -> Result<(), AllocError> {
-    if old.size == pool.size && old.min_size == pool.min_size {
-        return Ok(());
-    }
-    sizes.push(PoolSizes {
-        pool: pool.id,
-        size: pool.size,
-        min_size: pool.min_size,
     })
 }

@@ -4,13 +4,13 @@ ghost use Rattle.std.specs.Prelude.{◌≡◌, map, IfOk};
 ghost use Rattle.std.specs.Arc.{arc_value};
 
 use super::made::Run;
-use super::named::Named;
-use super::starts::{Starts, incs_of, starts_of};
+use super::starts::{Placed, Starts, incs_of};
 use pgp_core::Log;
 use pgp_ids::{Entry, Incremental, OsdId};
 use pgp_log::inc_of;
 use pgp_map::{MapFault, OsdMap};
 use std::alloc::{AllocError, Global};
+use std::collections::HashSet;
 use std::sync::Arc;
 
 /// A piece of a shorter log.
@@ -31,13 +31,20 @@ pub fn pieces_of(alloc: Global, log: &mut Log) -> Result<Option<Vec<Piece>>, All
 {
     let entries = shared(alloc, log.entries())?;
     let incs = incs_of(alloc, entries.as_slice())?;
-    let keeps_destroyed = has_report_of_destroyed(log.map(), entries.as_slice());
-    let starts = starts_of(alloc, log, incs.as_slice(), keeps_destroyed)?;
+    let map = log.map();
+    let keeps_destroyed = entries.iter().any(|entry| is_of_destroyed(map, entry));
+    let starts = Starts::of(alloc, log, incs.as_slice(), keeps_destroyed)?;
     if starts.are_all() {
         return Ok(None);
     }
-    let mut pieces = Pieces::new(alloc, keeps_destroyed)?;
-    if !pieces.put_runs(entries.as_slice(), &starts)? {
+    let devices = devices_of(alloc, incs.as_slice())?;
+    let mut pieces = Pieces::new(alloc, devices);
+    if !pieces.put_all(
+        entries.as_slice(),
+        incs.as_slice(),
+        &starts,
+        keeps_destroyed,
+    )? {
         return Ok(None);
     }
     Ok(Some(pieces.pieces))
@@ -54,37 +61,33 @@ pub(crate) fn shared(alloc: Global, entries: &[Arc<Entry>]) -> Result<Vec<Arc<En
     Ok(copies)
 }
 
-/// Who told what the entry says, where that is a device.
-fn sender(entry: &Entry) -> Option<OsdId> {
+/// Whether it is a report of a device that the map doesn't have.
+fn is_of_destroyed(map: &OsdMap, entry: &Entry) -> bool {
     match entry {
-        Entry::Info(info) => Some(info.member.osd),
-        Entry::Entries(report) => Some(report.member.osd),
-        Entry::Inc(_) => None,
-        Entry::Close => None,
+        Entry::Info(info) => !map.exists(info.member.osd),
+        Entry::Entries(report) => !map.exists(report.member.osd),
+        Entry::Inc(_) => false,
+        Entry::Close => false,
     }
 }
 
-/// Whether some report is of a device that the last map doesn't have.
-fn has_report_of_destroyed(map: &OsdMap, entries: &[Arc<Entry>]) -> bool {
-    for entry in entries {
-        if let Some(osd) = sender(entry)
-            && !map.exists(osd)
-        {
-            return true;
+/// The devices that ever boot, in ascending order.
+fn devices_of(alloc: Global, incs: &[Placed<'_>]) -> Result<Vec<OsdId>, AllocError> {
+    let mut known = HashSet::new(alloc);
+    for it in incs {
+        for osd in it.inc.up.as_slice() {
+            known.insert(*osd)?;
         }
     }
-    false
-}
-
-/// The run of incrementals that is gone through.
-#[derive(Clone, Copy)]
-struct Begun<'a> {
-    /// Its first incremental.
-    first: &'a Incremental,
-    /// The place of that in the log.
-    place: usize,
-    /// It is a single incremental so far.
-    is_one: bool,
+    let mut devices = Vec::new(alloc);
+    for number in 0..=OsdId::MAX {
+        if let Some(osd) = OsdId::new(number)
+            && known.contains(&osd)
+        {
+            devices.push(osd)?;
+        }
+    }
+    Ok(devices)
 }
 
 /// The pieces so far, and the maps that they and the log make.
@@ -92,72 +95,58 @@ struct Begun<'a> {
 struct Pieces {
     alloc: Global,
     pieces: Vec<Piece>,
+    /// The devices that ever boot.
+    devices: Vec<OsdId>,
     /// The map of the pieces.
     before: OsdMap,
     /// The map of the log.
     after: OsdMap,
     /// Whether both say the same.
     is_same: bool,
-    /// Whether devices that are destroyed stay until the last incremental, since there are reports of theirs.
-    keeps_destroyed: bool,
 }
 
 impl Pieces {
-    fn new(alloc: Global, keeps_destroyed: bool) -> Result<Self, AllocError> {
-        Ok(Pieces {
+    fn new(alloc: Global, devices: Vec<OsdId>) -> Self {
+        Pieces {
             alloc,
             pieces: Vec::new(alloc),
+            devices,
             before: OsdMap::empty(alloc),
             after: OsdMap::empty(alloc),
             is_same: true,
-            keeps_destroyed,
-        })
+        }
     }
 
-    /// Goes through the log run by run. Whether the pieces of all of them fit.
-    fn put_runs(&mut self, entries: &[Arc<Entry>], starts: &Starts) -> Result<bool, AllocError> {
-        let mut named = Named::new(self.alloc);
-        let mut begun: Option<Begun<'_>> = None;
-        let mut count = 0usize;
-        let mut last_place = 0usize;
-        for (place, entry) in entries.iter().enumerate() {
-            let Some(inc) = inc_of(entry) else {
-                continue;
-            };
-            if starts.has(count) {
-                if let Some(run) = begun
-                    && !self.end_run(run, &named, !self.keeps_destroyed)?
-                {
-                    return Ok(false);
-                }
-                named.clear();
-                begun = Some(Begun {
-                    first: inc,
-                    place,
-                    is_one: true,
-                });
-            } else if let Some(run) = begun {
-                begun = Some(Begun {
-                    is_one: false,
-                    ..run
-                });
-            }
-            named.follow(inc)?;
-            if !take(&mut self.after, inc)? {
+    /// Goes through the log run by run. The reports come after the last run, with `keeps_destroyed` those before the last incremental
+    /// come before it. Whether the pieces of all runs fit.
+    fn put_all(
+        &mut self,
+        entries: &[Arc<Entry>],
+        incs: &[Placed<'_>],
+        starts: &Starts,
+        keeps_destroyed: bool,
+    ) -> Result<bool, AllocError> {
+        let mut kept = 0;
+        let mut run = Vec::new(self.alloc);
+        for (place, it) in incs.iter().enumerate() {
+            if !take(&mut self.after, it.inc)? {
                 return Ok(false);
             }
-            count = count.saturating_add(1);
-            last_place = place;
+            run.push(*it)?;
+            let end = place + 1;
+            if !starts.has(end) {
+                continue;
+            }
+            let is_last = end == incs.len();
+            if is_last && keeps_destroyed {
+                self.keep_reports(entries, 0, it.place)?;
+                kept = it.place;
+            }
+            if !self.put_run(run.as_slice(), is_last)? {
+                return Ok(false);
+            }
+            run.clear();
         }
-        if self.keeps_destroyed {
-            self.keep_reports(entries, 0, last_place)?;
-        }
-        if let Some(run) = begun
-            && !self.end_run(run, &named, true)?
-        {
-            return Ok(false);
-        }
-        let kept = if self.keeps_destroyed { last_place } else { 0 };
         self.keep_reports(entries, kept, entries.len())?;
         Ok(true)
     }
@@ -177,30 +166,25 @@ impl Pieces {
         Ok(())
     }
 
-    /// Puts in the incremental of a run: its own, where it is the only one and changes the map of the pieces, or one that is made. With
-    /// `destroys` devices are destroyed in it that are so at its end.
-    fn end_run(
-        &mut self,
-        run: Begun<'_>,
-        named: &Named<'_>,
-        destroys: bool,
-    ) -> Result<bool, AllocError> {
-        let first = run.first;
-        if run.is_one
-            && (destroys || first.gone.is_empty())
-            && self.is_same
-            && self.before.epoch() == first.after
-        {
-            self.pieces.push(Piece::Kept(run.place))?;
-            return take(&mut self.before, first);
+    /// Puts in the incremental of a run: its own, where it is the only one and changes the map of the pieces, or one that is made.
+    /// Whether it fits.
+    fn put_run(&mut self, incs: &[Placed<'_>], is_last: bool) -> Result<bool, AllocError> {
+        let Some(first) = incs.first() else {
+            return Ok(true);
+        };
+        let follows = self.is_same && self.before.epoch() == first.inc.after;
+        if incs.len() == 1 && follows && (is_last || first.inc.gone.is_empty()) {
+            self.pieces.push(Piece::Kept(first.place))?;
+            return take(&mut self.before, first.inc);
         }
-        let made = Run {
+        let run = Run {
+            incs,
+            devices: self.devices.as_slice(),
             before: &self.before,
             after: &self.after,
-            epoch: first.epoch,
-            destroys,
+            is_last,
         };
-        let inc = made.inc(self.alloc, named)?;
+        let inc = run.inc(self.alloc, first.inc.epoch)?;
         let fits = take(&mut self.before, &inc)?;
         self.is_same = self.before.says_the_same(&self.after);
         let entry = Arc::new(self.alloc, Entry::Inc(inc))?;

@@ -2,23 +2,33 @@
 
 ghost use Rattle.std.specs.Prelude.{◌≡◌};
 
-use super::lives::Lives;
 use pgp_core::Log;
-use pgp_ids::{Entry, Incremental, OsdId, PgId, View};
+use pgp_ids::{Entry, Epoch, Incremental, OsdId, PgId};
 use pgp_log::inc_of;
+use pgp_map::OsdMap;
 use std::alloc::{AllocError, Global};
-use std::collections::HashMap;
+use std::collections::{HashMap, HashSet};
 use std::sync::Arc;
+
+/// How many pg_temp lists a run may give: their text, with that of a tree and of all devices, is no longer than a line may be.
+const MAX_LISTS: usize = 8192;
+
+/// An incremental, and its place in the log.
+#[derive(Clone, Copy)]
+pub(crate) struct Placed<'a> {
+    pub place: usize,
+    pub inc: &'a Incremental,
+}
 
 /// The incrementals of a log, in its order.
 pub(crate) fn incs_of(
     alloc: Global,
     entries: &[Arc<Entry>],
-) -> Result<Vec<&Incremental>, AllocError> {
+) -> Result<Vec<Placed<'_>>, AllocError> {
     let mut incs = Vec::new(alloc);
-    for entry in entries {
+    for (place, entry) in entries.iter().enumerate() {
         if let Some(inc) = inc_of(entry) {
-            incs.push(inc)?;
+            incs.push(Placed { place, inc })?;
         }
     }
     Ok(incs)
@@ -31,7 +41,32 @@ pub(crate) struct Starts {
 }
 
 impl Starts {
-    /// The first and the last one do.
+    /// Those of the log whose incrementals are these. With `keeps_destroyed` the last incremental but one is a start too: devices that
+    /// are destroyed stay until the last one.
+    pub fn of(
+        alloc: Global,
+        log: &mut Log,
+        incs: &[Placed<'_>],
+        keeps_destroyed: bool,
+    ) -> Result<Self, AllocError>
+        ensures { log.new ≡ log.old }
+    {
+        let mut starts = Starts::of_ends(alloc, incs.len())?;
+        if keeps_destroyed {
+            starts.mark(incs.len().checked_sub(2));
+        }
+        let mut places = HashMap::new(alloc);
+        for (place, it) in incs.iter().enumerate() {
+            places.insert(it.inc.epoch.number(), place)?;
+        }
+        starts.mark_intervals(log, &places)?;
+        starts.mark_boots(log.map(), incs);
+        starts.mark_many_lists(alloc, incs)?;
+        starts.mark_first_deaths(alloc, incs)?;
+        Ok(starts)
+    }
+
+    /// The first and the last one.
     fn of_ends(alloc: Global, count: usize) -> Result<Self, AllocError> {
         let mut starts = Vec::new(alloc);
         for place in 0..count {
@@ -40,7 +75,7 @@ impl Starts {
         Ok(Starts { starts })
     }
 
-    /// The incremental at this place begins a run.
+    /// The incremental at this place begins a run, or there is none.
     pub fn has(&self, place: usize) -> bool {
         match self.starts.get(place) {
             Some(start) => *start,
@@ -86,87 +121,110 @@ impl Starts {
     ) -> Result<(), AllocError>
         ensures { log.new ≡ log.old }
     {
-        if let Some(view) = log.ask(pg)? {
-            self.mark_view(&view, places);
-        }
-        Ok(())
-    }
-
-    fn mark_view(&mut self, view: &View, places: &HashMap<u32, usize>) {
+        let Some(view) = log.ask(pg)? else {
+            return Ok(());
+        };
         self.mark(places.get(&view.first.number()).copied());
         for interval in view.intervals.as_slice() {
             if view.les <= interval.last {
                 self.mark(places.get(&interval.first.number()).copied());
             }
         }
+        Ok(())
     }
 
-    /// The last boot of a device that is up is a start, and the last loss before it: a device is given up for lost where it is down.
-    fn mark_lives(&mut self, lives: &Lives) {
-        for life in lives.as_slice() {
-            if life.is_up {
-                self.mark(life.last_boot);
-                self.mark(life.last_loss);
-            }
-        }
-    }
-
-    /// A device that first boots in a run, and is down at its end, has to be there nevertheless: then a run ends before it first goes
-    /// down.
-    fn mark_first_deaths(
-        &mut self,
-        alloc: Global,
-        incs: &[&Incremental],
-        all: &Lives,
-    ) -> Result<(), AllocError> {
-        let mut deaths = Vec::new(alloc);
-        let mut born: Vec<OsdId> = Vec::new(alloc);
-        let mut so_far = Lives::new(alloc)?;
-        for (place, inc) in incs.iter().enumerate() {
-            if self.has(place) {
-                for osd in &born {
-                    if !so_far.of(*osd).is_up {
-                        deaths.push(all.of(*osd).first_down)?;
+    /// The last boot of a device that is up is a start. So is the incremental before it, where the device was given up for lost after the
+    /// run began that ends there: the one that is made of a run names no later epoch.
+    fn mark_boots(&mut self, map: &OsdMap, incs: &[Placed<'_>]) {
+        let mut begun = Epoch::new(0);
+        for (place, it) in incs.iter().enumerate() {
+            for osd in it.inc.up.as_slice() {
+                if map.is_up(*osd) && map.up_from(*osd) == it.inc.epoch {
+                    self.mark(Some(place));
+                    if begun < map.lost_at(*osd) {
+                        self.mark(place.checked_sub(1));
                     }
                 }
-                born.clear();
             }
-            so_far.follow(place, inc);
-            for osd in inc.up.as_slice() {
-                if all.of(*osd).first_boot == Some(place) {
-                    born.push(*osd)?;
-                }
+            if self.has(place) {
+                begun = it.inc.epoch;
             }
         }
-        for death in &deaths {
-            self.mark(*death);
+    }
+
+    /// A run begins where the one before would give too many pg_temp lists.
+    fn mark_many_lists(&mut self, alloc: Global, incs: &[Placed<'_>]) -> Result<(), AllocError> {
+        let mut named = HashSet::new(alloc);
+        for (place, it) in incs.iter().enumerate() {
+            let temp = it.inc.temp.as_slice();
+            if self.has(place) || temp.len() > MAX_LISTS.saturating_sub(named.len()) {
+                self.mark(Some(place));
+                named.clear();
+            }
+            for given in temp {
+                named.insert(given.pg)?;
+            }
         }
         Ok(())
     }
+
+    /// A device that first boots in a run, and is down at its end, has to be there nevertheless: then a run begins where it first goes
+    /// down.
+    fn mark_first_deaths(&mut self, alloc: Global, incs: &[Placed<'_>]) -> Result<(), AllocError> {
+        let turns = turns_of(alloc, incs)?;
+        for _ in 0..OsdId::MAX {
+            if !self.mark_deaths(alloc, turns.as_slice())? {
+                break;
+            }
+        }
+        Ok(())
+    }
+
+    /// Marks the first deaths that have to be starts where runs are as they are, and says whether there are any. Then there are more
+    /// runs, and there may be more.
+    fn mark_deaths(&mut self, alloc: Global, turns: &[Vec<usize>]) -> Result<bool, AllocError> {
+        let firsts = self.firsts(alloc)?;
+        let mut has_marked = false;
+        for turns in turns {
+            let [boot, death, ..] = turns.as_slice() else {
+                continue;
+            };
+            let begun = firsts.get(*boot);
+            let here = turns.iter().filter(|turn| firsts.get(**turn) == begun);
+            if here.count() % 2 == 0 {
+                self.mark(Some(*death));
+                has_marked = true;
+            }
+        }
+        Ok(has_marked)
+    }
+
+    /// Of each incremental the place of the first of its run.
+    fn firsts(&self, alloc: Global) -> Result<Vec<usize>, AllocError> {
+        let mut firsts = Vec::new(alloc);
+        let mut first = 0;
+        for (place, start) in self.starts.iter().enumerate() {
+            if *start {
+                first = place;
+            }
+            firsts.push(first)?;
+        }
+        Ok(firsts)
+    }
 }
 
-/// The runs of the log whose incrementals are these. With `keeps_destroyed` the last incremental but one is a start too: devices that
-/// are destroyed stay until the last one.
-pub(crate) fn starts_of(
-    alloc: Global,
-    log: &mut Log,
-    incs: &[&Incremental],
-    keeps_destroyed: bool,
-) -> Result<Starts, AllocError>
-    ensures { log.new ≡ log.old }
-{
-    let mut starts = Starts::of_ends(alloc, incs.len())?;
-    let mut places = HashMap::new(alloc);
-    let mut lives = Lives::new(alloc)?;
-    for (place, inc) in incs.iter().enumerate() {
-        places.insert(inc.epoch.number(), place)?;
-        lives.follow(place, inc);
+/// Of each device, by its number, the places of the incrementals in which it boots and goes down, in turn.
+fn turns_of(alloc: Global, incs: &[Placed<'_>]) -> Result<Vec<Vec<usize>>, AllocError> {
+    let mut turns: Vec<Vec<usize>> = Vec::new(alloc);
+    for _ in 0..=OsdId::MAX {
+        turns.push(Vec::new(alloc))?;
     }
-    if keeps_destroyed {
-        starts.mark(incs.len().checked_sub(2));
+    for (place, it) in incs.iter().enumerate() {
+        for osd in it.inc.up.as_slice().iter().chain(it.inc.down.as_slice()) {
+            if let Some(turns) = turns.get_mut(usize::from(osd.number())) {
+                turns.push(place)?;
+            }
+        }
     }
-    starts.mark_lives(&lives);
-    starts.mark_intervals(log, &places)?;
-    starts.mark_first_deaths(alloc, incs, &lives)?;
-    Ok(starts)
+    Ok(turns)
 }
