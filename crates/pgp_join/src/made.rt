@@ -101,23 +101,23 @@ impl Run<'_> {
         for it in self.incs {
             for temp in it.inc.temp.as_slice() {
                 if known.insert(temp.pg)? {
-                    self.put_temp(alloc, inc, temp.pg)?;
+                    self.put_temp(alloc, inc, &temp.pg)?;
                 }
             }
         }
         Ok(())
     }
 
-    fn put_temp(&self, alloc: Global, inc: &mut Incremental, pg: PgId) -> Result<(), AllocError> {
-        let list = self.after.temp(pg);
-        if list == self.before.temp(pg) {
+    fn put_temp(&self, alloc: Global, inc: &mut Incremental, pg: &PgId) -> Result<(), AllocError> {
+        let list = self.after.temp(*pg);
+        if list == self.before.temp(*pg) {
             return Ok(());
         }
         let mut osds = Seq::new(alloc);
         for place in list {
             osds.push(*place)?;
         }
-        inc.temp.push(TempList { pg, osds })
+        inc.temp.push(TempList { pg: *pg, osds })
     }
 
     /// Puts in the last tree that the run gives.
