@@ -245,7 +245,7 @@ typedef struct pgp_peer {
 /* Each puts a list of what the session's log says of a group at the start of the room, which has places for `room_length` of
  * them, and how many they are into *count: PGP_DONE. PGP_ROOM_TOO_SMALL says by *count how many places it wants, and leaves the
  * room as it was. At any other status, which are those of pgp_ask, the room stays as it was too, and *count is 0. The session
- * stays as it was. Each call copies the view first. */
+ * stays as it was. */
 uint32_t pgp_probe(pgp_session *session, uint32_t pool, uint32_t pg, pgp_member *room, size_t room_length, size_t *count);
 uint32_t pgp_blocked_by(pgp_session *session, uint32_t pool, uint32_t pg, uint16_t *room, size_t room_length, size_t *count);
 uint32_t pgp_intervals(pgp_session *session, uint32_t pool, uint32_t pg, pgp_interval *room, size_t room_length, size_t *count);

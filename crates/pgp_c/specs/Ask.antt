@@ -1,10 +1,12 @@
 -- How a question about a placement group ends. This project's own choice.
-use Rattle.std.specs.Prelude.{◌≡◌, ◌⊎◌, ℕ, ◌≤◌, List, true, Option, Some, None, is_some, Result, Ok, Err}
+use Rattle.std.specs.Prelude.{◌≡◌, ◌⊎◌, ℕ, ◌≤◌, List, length, true, Option, Some, None, is_some, Result, Ok, Err}
 use Rattle.pgp_ids.specs.declared.entry.Entry.{Entry}
 use Rattle.pgp_ids.specs.declared.pg_id.PgId.{PgId}
 use Rattle.pgp_ids.specs.declared.view.View.{View}
 use Rattle.pgp_ids.specs.AskRefusal.{ask_refusal_number}
 use Rattle.pgp_ids.specs.declared.ask_refusal.AskRefusal.TheVariants.{UnknownGroup}
+use Rattle.pgp_group.specs.Touched.{view_at}
+use Rattle.pgp_log.specs.Log.{epoch_of}
 use Rattle.pgp_core.specs.Session.{LogAndAnswer, view_in}
 use Rattle.pgp_c.specs.Locate.{IsPool}
 use Rattle.pgp_c.specs.Status.{status_number}
@@ -53,7 +55,6 @@ pub record AnswersIn (log : List Entry) (pool pg : ℕ) (answer : Result View �
   pub good : AreOfGroup pool pg → (answer ≡ view_or_refusal (view_in log (group pool pg)))
       ⊎ ((is_some (view_in log (group pool pg)) ≡ true) × (answer ≡ Err (status_number NoMemory)))
 
--- What a session says of the group, where there is one.
-abbrev pub AnswersAsk : Option LogAndAnswer → ℕ → ℕ → Result View ℕ → Type 0
-AnswersAsk None pool pg answer = answer ≡ Err (status_number NotOpen)
-AnswersAsk (Some was) pool pg answer = AnswersIn was.log pool pg answer
+-- the view with the log's count and epoch
+abbrev pub whole_view : List Entry → View → View
+whole_view log view = view_at (length log) (epoch_of log) view

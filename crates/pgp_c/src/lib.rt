@@ -48,17 +48,16 @@ mod view;
 
 use compact::compact_log;
 use copy::open_copy;
-use each::put_each;
-use info::{PgpInfo, member_of, submit_info};
+use info::{PgpInfo, submit_info};
 use joined_lines::put_joined_lines;
-use lists::{PgpInterval, PgpMember, PgpPeer};
+use lists::{PgpInterval, PgpMember, PgpPeer, put_list};
 use locate::locate;
 use log::{PgpLog, log_of};
 use needed::put_needed;
 use objects::{PgpObject, put_objects};
 use open::{open, session_format};
 use open_lines::open_lines;
-use pgp_ids::Entry;
+use pgp_ids::{Entry, Member, OsdId, Past, PeerMissing};
 use pgp_lines::Format;
 use place::PgpPlace;
 use report::{PgpLogEntry, PgpReport, submit_entries};
@@ -67,7 +66,7 @@ use session::PgpSession;
 use status::Status;
 use std::alloc::Global;
 use submit::submit;
-use view::{PgpView, view_of};
+use view::{PgpView, put_view};
 
 /// Version 0.1.1.
 const VERSION: u32 = 101;
@@ -203,13 +202,12 @@ pub extern "C" fn pgp_ask(
 ) -> u32
     ensures { Asks session.old.held.session session.new.held.session pool pg view.old view.new result }
 {
-    match session.ask(alloc, pool, pg) {
-        Ok(answer) => {
-            *view = view_of(&answer);
-            Status::Done.number()
-        }
-        Err(status) => status,
-    }
+    let Some(mut opened) = session.take(alloc) else {
+        return Status::NotOpen.number();
+    };
+    let status = put_view(&mut opened, pool, pg, view);
+    session.put(opened);
+    status
 }
 
 /// Adds to the session's log what a member says of its copy of a group. If the log refuses it, the status is the number of the
@@ -347,11 +345,7 @@ pub extern "C" fn pgp_probe(
     ensures { Lists session.old.held.session session.new.held.session pool pg (λ view. map member_of view.probe) room.old room.new
         count.new result }
 {
-    *count = 0;
-    match session.ask(alloc, pool, pg) {
-        Ok(view) => put_each(view.probe.as_slice(), room, count).number(),
-        Err(status) => status,
-    }
+    put_list::<Member, PgpMember>(alloc, session, pool, pg, room, count)
 }
 
 /// Puts the devices that block a group into `room` if they fit, and their number into `count`.
@@ -367,11 +361,7 @@ pub extern "C" fn pgp_blocked_by(
     ensures { Lists session.old.held.session session.new.held.session pool pg (λ view. map pgp_device view.blocked_by) room.old room.new
         count.new result }
 {
-    *count = 0;
-    match session.ask(alloc, pool, pg) {
-        Ok(view) => put_each(view.blocked_by.as_slice(), room, count).number(),
-        Err(status) => status,
-    }
+    put_list::<OsdId, u16>(alloc, session, pool, pg, room, count)
 }
 
 /// Puts the past intervals of a group into `room` if they fit, and their number into `count`.
@@ -387,11 +377,7 @@ pub extern "C" fn pgp_intervals(
     ensures { Lists session.old.held.session session.new.held.session pool pg (λ view. map interval_of view.intervals) room.old room.new
         count.new result }
 {
-    *count = 0;
-    match session.ask(alloc, pool, pg) {
-        Ok(view) => put_each(view.intervals.as_slice(), room, count).number(),
-        Err(status) => status,
-    }
+    put_list::<Past, PgpInterval>(alloc, session, pool, pg, room, count)
 }
 
 /// Puts the states of the heard members, except the best one, into `room` if they fit, and their number into `count`.
@@ -407,11 +393,7 @@ pub extern "C" fn pgp_missing(
     ensures { Lists session.old.held.session session.new.held.session pool pg (λ view. map peer_of view.missing) room.old room.new
         count.new result }
 {
-    *count = 0;
-    match session.ask(alloc, pool, pg) {
-        Ok(view) => put_each(view.missing.as_slice(), room, count).number(),
-        Err(status) => status,
-    }
+    put_list::<PeerMissing, PgpPeer>(alloc, session, pool, pg, room, count)
 }
 
 /// Puts the objects that a member of a group lacks into `room` if they fit, and their number into `count`.
@@ -429,16 +411,12 @@ pub extern "C" fn pgp_missing_objects(
     ensures { Objects session.old.held.session session.new.held.session pool pg osd slot room.old room.new count.new result }
 {
     *count = 0;
-    if !session.is_open {
+    let Some(mut opened) = session.take(alloc) else {
         return Status::NotOpen.number();
-    }
-    let Some(member) = member_of(osd, slot) else {
-        return Status::BadArgument.number();
     };
-    match session.ask(alloc, pool, pg) {
-        Ok(view) => put_objects(&view, member, room, count),
-        Err(status) => status,
-    }
+    let status = put_objects(&mut opened, pool, pg, osd, slot, room, count);
+    session.put(opened);
+    status
 }
 
 /// The version of the library as one number: 10,000 times its first part, plus 100 times its second, plus its third.

@@ -1,11 +1,18 @@
 //! The lists of what a log says of a placement group, as C reads them.
 
-ghost use Rattle.std.specs.Prelude.{◌≡◌};
-ghost use Rattle.pgp_c.specs.Lists.{pgp_device, interval_of, lacking_count, member_of, peer_of, peer_state_number};
+ghost use Rattle.std.specs.Prelude.{◌≡◌, ℕ, List, map, refl};
+ghost use Rattle.pgp_group.specs.Touched.{view_at};
+ghost use Rattle.pgp_ids.specs.declared.view.View.{View as AnyView};
+ghost use Rattle.pgp_c.specs.Lists.{Lists, ListsIn, pgp_device, interval_of, lacking_count, member_of, peer_of, peer_state_number};
 
-use super::each::AsC;
+use super::ask::ask;
+use super::each::{AsC, put_each};
 use super::place::{device_number, sixteen};
-use pgp_ids::{Member, OsdId, Past, PeerMissing, PeerState};
+use super::session::PgpSession;
+use super::status::Status;
+use pgp_core::Session;
+use pgp_ids::{Member, OsdId, Past, PeerMissing, PeerState, View};
+use std::alloc::Global;
 
 /// A member of a group.
 #[repr(C)]
@@ -47,6 +54,102 @@ pub struct PgpPeer {
     pub slot: u8,
     /// 0: it has all objects except these; 1: backfill; 2: diverged.
     pub state: u8,
+}
+
+/// A value of which a view has a list.
+pub trait InView: Sized {
+    // The list of them.
+    ghost list_in: { AnyView → List Self };
+
+    // It is the same at any count and epoch.
+    ghost stays: { (count epoch : ℕ) (view : AnyView) → list_in (view_at count epoch view) ≡ list_in view };
+
+    /// The list of them.
+    fn list_in(view: &View) -> &[Self]
+        ensures { result.now ≡ list_in view.now };
+}
+
+/// The members that have to be heard.
+impl InView for Member {
+    ghost list_in = { λ view. view.probe };
+
+    ghost stays = { λ count epoch view. refl };
+
+    fn list_in(view: &View) -> &[Member] {
+        view.probe.as_slice()
+    }
+}
+
+/// The devices that block the group.
+impl InView for OsdId {
+    ghost list_in = { λ view. view.blocked_by };
+
+    ghost stays = { λ count epoch view. refl };
+
+    fn list_in(view: &View) -> &[OsdId] {
+        view.blocked_by.as_slice()
+    }
+}
+
+/// The past intervals.
+impl InView for Past {
+    ghost list_in = { λ view. view.intervals };
+
+    ghost stays = { λ count epoch view. refl };
+
+    fn list_in(view: &View) -> &[Past] {
+        view.intervals.as_slice()
+    }
+}
+
+/// The states of the heard members, except the best one.
+impl InView for PeerMissing {
+    ghost list_in = { λ view. view.missing };
+
+    ghost stays = { λ count epoch view. refl };
+
+    fn list_in(view: &View) -> &[PeerMissing] {
+        view.missing.as_slice()
+    }
+}
+
+/// Puts the list of values of this type that a session's view of a group has into `room` if they fit, and their number into `count`.
+pub fn put_list<T: AsC<C> + InView, C: Copy>(
+    alloc: Global,
+    session: &mut PgpSession,
+    pool: u32,
+    pg: u32,
+    room: &mut [C],
+    count: &mut usize,
+) -> u32
+    ensures { Lists session.old.held.session session.new.held.session pool pg (λ view. map T.as_c (T.list_in view)) room.old room.new
+        count.new result }
+{
+    *count = 0;
+    let Some(mut opened) = session.take(alloc) else {
+        return Status::NotOpen.number();
+    };
+    let status = put_list_of::<T, C>(&mut opened, pool, pg, room, count);
+    session.put(opened);
+    status
+}
+
+/// The same of an open session.
+fn put_list_of<T: AsC<C> + InView, C: Copy>(
+    session: &mut Session,
+    pool: u32,
+    pg: u32,
+    room: &mut [C],
+    count: &mut usize,
+) -> u32
+    requires { count.old ≡ 0 }
+    ensures same { session.new ≡ session.old }
+    ensures list { ListsIn session.old.log pool pg (λ view. map T.as_c (T.list_in view)) room.old room.new count.new result }
+{
+    match ask(session, pool, pg) {
+        Ok(view) => put_each(T::list_in(view), room, count).number(),
+        Err(status) => status,
+    }
 }
 
 impl AsC<u16> for OsdId {

@@ -1,11 +1,14 @@
 //! The objects that a member of a placement group lacks, as C reads them.
 
 ghost use Rattle.std.specs.Prelude.{◌≡◌, option_map};
-ghost use Rattle.pgp_c.specs.Objects.{PutsObjects, lacked, name_room, pgp_object, objects_of};
+ghost use Rattle.pgp_c.specs.Objects.{ObjectsIn, PutsObjects, lacked, name_room, pgp_object, objects_of};
 
+use super::ask::ask;
 use super::each::{AsC, put_each};
+use super::info::member_of;
 use super::status::Status;
-use pgp_ids::{Member, MissingObject, ObjectName, PeerMissing, PeerState, View};
+use pgp_core::Session;
+use pgp_ids::{Member, MissingObject, ObjectName, PeerMissing, PeerState};
 
 /// An object that a member lacks.
 #[repr(C)]
@@ -43,12 +46,40 @@ fn name_room(name: &ObjectName) -> [u8; 255]
     room
 }
 
-/// Puts the objects that a member lacks, as far as the view says, into `room` if they fit, and their number into `count`.
-pub fn put_objects(view: &View, member: Member, room: &mut [PgpObject], count: &mut usize) -> u32
+/// Puts the objects that a member of a group lacks, as the session says, into `room` if they fit, and their number into `count`.
+pub fn put_objects(
+    session: &mut Session,
+    pool: u32,
+    pg: u32,
+    osd: u32,
+    slot: u32,
+    room: &mut [PgpObject],
+    count: &mut usize,
+) -> u32
     requires { count.old ≡ 0 }
-    ensures { PutsObjects (objects_of view.now.missing member) room.old room.new count.new result }
+    ensures same { session.new ≡ session.old }
+    ensures objects { ObjectsIn session.old.log pool pg osd slot room.old room.new count.new result }
 {
-    match objects_of(view.missing.as_slice(), member) {
+    let Some(member) = member_of(osd, slot) else {
+        return Status::BadArgument.number();
+    };
+    match ask(session, pool, pg) {
+        Ok(view) => put_lacked(view.missing.as_slice(), member, room, count),
+        Err(status) => status,
+    }
+}
+
+/// Puts the objects that a member lacks by these states into `room` if they fit, and their number into `count`.
+fn put_lacked(
+    peers: &[PeerMissing],
+    member: Member,
+    room: &mut [PgpObject],
+    count: &mut usize,
+) -> u32
+    requires { count.old ≡ 0 }
+    ensures { PutsObjects (objects_of peers.now member) room.old room.new count.new result }
+{
+    match objects_of(peers, member) {
         Some(objects) => put_each(objects, room, count).number(),
         None => Status::NoList.number(),
     }

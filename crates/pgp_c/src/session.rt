@@ -1,13 +1,9 @@
 //! The session of a C program.
 
 ghost use Rattle.std.specs.Prelude.{◌≡◌, Some, None, is_some, option_map};
-ghost use Rattle.pgp_c.specs.Ask.{AnswersAsk};
 
-use super::ask::ask;
 use super::held_session::HeldSession;
-use super::status::Status;
 use pgp_core::Session;
-use pgp_ids::View;
 use std::alloc::Global;
 
 /// What a C program keeps of a session: 16 bytes of its own, filled with zeros before the first call. It reads and writes none
@@ -37,19 +33,6 @@ impl PgpSession {
         };
         let PgpSession { is_open: _, held } = std::mem::replace(self, closed);
         Some(held.into_box())
-    }
-
-    /// What the session says of a group, or the status that says why there is no answer.
-    pub fn ask(&mut self, alloc: Global, pool: u32, pg: u32) -> Result<View, u32>
-        ensures same { self.new.held.session ≡ self.old.held.session }
-        ensures answer { AnswersAsk self.old.held.session pool pg result }
-    {
-        let Some(mut opened) = self.take(alloc) else {
-            return Err(Status::NotOpen.number());
-        };
-        let answer = ask(&mut opened, pool, pg);
-        self.put(opened);
-        answer
     }
 
     /// Puts a session in, where there is none: one that is there would never be freed.

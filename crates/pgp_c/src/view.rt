@@ -1,10 +1,15 @@
 //! What a log says of a placement group, as C reads it.
 
 ghost use Rattle.std.specs.Prelude.{◌≡◌};
+ghost use Rattle.pgp_group.specs.Touched.{view_at};
+ghost use Rattle.pgp_c.specs.Ask.{AsksIn};
 ghost use Rattle.pgp_c.specs.View.{best_osd, best_slot, verdict_number, pgp_view};
 
+use super::ask::ask;
 use super::place::{device_number, sixteen};
-use pgp_ids::{Member, Verdict, View};
+use super::status::Status;
+use pgp_core::Session;
+use pgp_ids::{Epoch, Member, Verdict, View};
 
 /// What a log says of a placement group, with how long its lists are. A place without a device, one behind the end of its list, a
 /// list without a primary, and a group without a best member have 65535.
@@ -43,17 +48,33 @@ pub struct PgpView {
     pub acting: [u16; 16],
 }
 
-/// The view, as C reads it.
-pub fn view_of(view: &View) -> PgpView
-    ensures { result ≡ pgp_view view.now }
+/// Puts into `place` what the session says of a group.
+pub fn put_view(session: &mut Session, pool: u32, pg: u32, place: &mut PgpView) -> u32
+    ensures same { session.new ≡ session.old }
+    ensures view { AsksIn session.old.log pool pg place.old place.new result }
+{
+    let count = session.entries().len();
+    let epoch = session.epoch();
+    match ask(session, pool, pg) {
+        Ok(view) => {
+            *place = view_of(view, count, epoch);
+            Status::Done.number()
+        }
+        Err(status) => status,
+    }
+}
+
+/// The view at this count and epoch, as C reads it.
+fn view_of(view: &View, count: usize, epoch: Epoch) -> PgpView
+    ensures { result ≡ pgp_view (view_at count epoch view.now) }
 {
     PgpView {
-        count: view.count,
+        count,
         intervals: view.intervals.len(),
         probe: view.probe.len(),
         blocked_by: view.blocked_by.len(),
         missing: view.missing.len(),
-        epoch: view.epoch.number(),
+        epoch: epoch.number(),
         first: view.first.number(),
         les: view.les.number(),
         verdict: verdict_number(view.verdict),

@@ -54,12 +54,9 @@ puts-reply alone before after command reply old new replies is = record {
 }
 
 -- what a shard keeps of a group, at the log's count and epoch, is what is replied
-pub told-reply : (log front : List Entry) (pg : PgId) (count epoch : ℕ) (told : Option View) → front ≡ log → count ≡ length log → epoch ≡ epoch_of log
-    → scratch front pg ≡ option_map (view_at (length front) (epoch_of front)) told → asked_reply pg (option_map (view_at count epoch) told) ≡ asked_reply pg (scratch log pg)
-told-reply log front pg count epoch told same many at is =
-    ap (asked_reply pg)
-    (ap₂ (λ n e. option_map (view_at n e) told) many at
-    ∙ sym (subst (λ (l : List Entry). scratch l pg ≡ option_map (view_at (length l) (epoch_of l)) told) same is))
+pub told-reply : (log : List Entry) (pg : PgId) (count epoch : ℕ) (told : Option View) → count ≡ length log → epoch ≡ epoch_of log
+    → scratch log pg ≡ option_map (view_at (length log) (epoch_of log)) told → asked_reply pg (option_map (view_at count epoch) told) ≡ asked_reply pg (scratch log pg)
+told-reply log pg count epoch told many at is = ap (asked_reply pg) (ap₂ (λ n e. option_map (view_at n e) told) many at ∙ sym is)
 
 -- ---- lines
 

@@ -1,14 +1,17 @@
 //! The log of a script, and what it takes next.
-ghost use Rattle.std.specs.Prelude.{◌≡◌, List, [], map, is_some, false, true, IfOk, OnOk, OnErr};
+ghost use Rattle.std.specs.Prelude.{◌≡◌, List, [], length, map, is_some, option_copied, option_map, false, true, IfOk, OnOk, OnErr};
 ghost use Rattle.std.specs.Arc.{arc_value};
+ghost use Rattle.std.specs.Borrow.{sem};
+ghost use Rattle.std.specs.Io.BufRead.{Rests};
 ghost use Rattle.pgp_ids.specs.declared.entry.Entry.{Entry as AnyEntry};
 ghost use Rattle.pgp_map.specs.MapOf.{IsMapOf};
 ghost use Rattle.pgp_map.specs.Pools.{has_group, pool};
 ghost use Rattle.pgp_group.specs.Entries.{incs_of};
+ghost use Rattle.pgp_group.specs.Touched.{view_at};
 ghost use Rattle.pgp_group.specs.View.{scratch};
 ghost use Rattle.pgp_lines.specs.declared.command.Command.TheVariants.{Submit};
 ghost use Rattle.pgp_log.specs.Fits.{fits};
-ghost use Rattle.pgp_log.specs.Log.{HasInc, is_legal};
+ghost use Rattle.pgp_log.specs.Log.{HasInc, epoch_of, is_legal};
 ghost use Rattle.pgp_log.specs.RawSets.{AreRawSets};
 ghost use Rattle.pgp_shard.specs.Running.{IsReading};
 ghost use Rattle.pgp_shard.specs.Shard.{HasReadSame, is_marked, is_own};
@@ -48,6 +51,8 @@ impl Model for Log {
 }
 
 impl Log {
+    ghost use Rattle.pgp_core.specs.contracts.log.Log.{the_row};
+
     /// The log before its first entry.
     pub fn new(alloc: Global) -> Self
         ensures { result ≡ [] }
@@ -111,12 +116,25 @@ impl Log {
         ensures memory { OnErr result (has_group (incs_of self.old) pg ≡ true) }
         ensures same { self.new ≡ self.old }
     {
-        if !self.log.map().has_group(&pg) {
+        if !read_for(&mut self.shard, &self.log, &pg)? {
             return Ok(None);
         }
-        self.shard.absorb_next(self.log.entries(), self.log.len())?;
         let view = self.shard.ask(pg).or(Err(AllocError))?;
         Ok(Some(view))
+    }
+
+    /// What the log says of a group, except for count and epoch, from where its shard keeps it. It is out of memory only where its map has
+    /// the group.
+    pub fn view(&mut self, pg: &PgId) -> Result<Option<&View>, AllocError>
+        ensures view { IfOk result (λ view. scratch self.old pg.now ≡ option_map (view_at (length self.old) (epoch_of self.old)) (option_copied view)) }
+        ensures memory { OnErr result (is_some (scratch self.old pg.now) ≡ true) }
+        ensures* same { sem 𝓛 (Rests the_row self.entry (λ last. last ≡ self.old)) }
+    {
+        if !read_for(&mut self.shard, &self.log, pg)? {
+            return Ok(None);
+        }
+        work_out(&mut self.shard, pg)?;
+        Ok(self.shard.view_of(pg))
     }
 
     /// The reply to an entry. Where the log takes it, the log has it from now on.
@@ -178,13 +196,28 @@ impl Answerer for Log {
         text: &mut Vec<u8>,
     ) -> Result<(), NoReply> {
         let count = self.log.len();
-        self.shard.absorb_next(self.log.entries(), count)?;
-        work_out(&mut self.shard, &pg)?;
         let epoch = self.log.map().epoch();
-        let view = self.shard.view_of(&pg);
+        let view = self.view(&pg)?;
         put_view(alloc, writer, pg, view, count, epoch, text)?;
         Ok(())
     }
+}
+
+/// Has the only shard of a log read all of it, where the map has the group: whether that is so. Only there it may be out of memory.
+#[tactic(auto, using(pgp_group::proofs::ViewLemmas::scratch_there))]
+fn read_for(shard: &mut ShardState, log: &JudgedLog, pg: &PgId) -> Result<bool, AllocError>
+    requires { IsReading log.now 1 0 shard.old }
+    ensures view { is_some (scratch log.now pg.now) ≡ has_group (incs_of log.now) pg.now }
+    ensures there { IfOk result (λ there. there ≡ has_group (incs_of log.now) pg.now) }
+    ensures read { IfOk result (λ there. there ≡ true → shard.new.front ≡ log.now) }
+    ensures memory { OnErr result (has_group (incs_of log.now) pg.now ≡ true) }
+    ensures reading { IsReading log.now 1 0 shard.new }
+{
+    if !log.map().has_group(pg) {
+        return Ok(false);
+    }
+    shard.absorb_next(log.entries(), log.len())?;
+    Ok(true)
 }
 
 /// Has the only shard of a log work out the group, where there is one. It is out of memory only where an incremental was read,

@@ -1,7 +1,10 @@
 //! A log that one thread tells and asks, line by line or in values, with no reader and no writer.
 
-ghost use Rattle.std.specs.Prelude.{◌≡◌, [], map, is_some, true, OnOk, IfOk, OnErr};
+ghost use Rattle.std.specs.Prelude.{◌≡◌, [], length, map, is_some, option_copied, option_map, true, OnOk, IfOk, OnErr};
 ghost use Rattle.std.specs.Arc.{arc_value};
+ghost use Rattle.std.specs.Borrow.{sem};
+ghost use Rattle.std.specs.Io.BufRead.{Rests};
+ghost use Rattle.pgp_group.specs.Touched.{view_at};
 ghost use Rattle.pgp_log.specs.Log.{epoch_of, is_legal};
 ghost use Rattle.pgp_lines.specs.declared.command.Command.TheVariants.{Locate, Submit};
 ghost use Rattle.pgp_core.specs.Added.{IsOutcome, added_by, with_added};
@@ -55,6 +58,8 @@ impl Model for Session {
 }
 
 impl Session {
+    ghost use Rattle.pgp_core.specs.contracts.session.Session.{the_row};
+
     /// An empty log, before its first line, of a session that reads lines up to this version. It takes no memory.
     pub fn new(alloc: Global, format: Format) -> Self
         ensures format { result.format ≡ format }
@@ -162,14 +167,15 @@ impl Session {
         self.log.locate(id, name)
     }
 
-    /// All that the log says of a group, where its map has it: only then it may be out of memory.
+    /// What the log says of a group, except for count and epoch, where its map has it: only then it may be out of memory. It isn't copied.
     #[tactic(auto, unfolding(crate::specs::Session::view_in))]
-    pub fn ask(&mut self, pg: PgId) -> Result<Option<View>, AllocError>
-        ensures view { IfOk result (λ view. view ≡ view_in self.old.log pg) }
-        ensures memory { OnErr result (is_some (view_in self.old.log pg) ≡ true) }
-        ensures same { self.new ≡ self.old }
+    pub fn view(&mut self, pg: &PgId) -> Result<Option<&View>, AllocError>
+        ensures view { IfOk result (λ view. view_in self.old.log pg.now
+            ≡ option_map (view_at (length self.old.log) (epoch_of self.old.log)) (option_copied view)) }
+        ensures memory { OnErr result (is_some (view_in self.old.log pg.now) ≡ true) }
+        ensures* same { sem 𝓛 (Rests the_row self.entry (λ last. last ≡ self.old)) }
     {
-        self.log.ask(pg)
+        self.log.view(pg)
     }
 
     /// Tells the log an entry, and gives the reply. Where the log takes the entry, it has it from now on.
