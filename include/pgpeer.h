@@ -20,9 +20,9 @@
  * Anything else that is wrong has a status. The library takes memory by malloc, realloc and free.
  *
  * What takes long: pgp_open_lines, pgp_open_copy and pgp_compact_log read the whole log. So does the first question about a group
- * after one of them, and the first about each group works that out. pgp_joined_lines works out all groups, several times.
- * bench/README.md has the times. A caller that can't wait does so in a copy of the session, on another thread, tells the copy what
- * came since, and goes on with that.
+ * after one of them, and the first about each group works that out; pgp_work does it before, bit by bit. pgp_joined_lines works out
+ * all groups, several times. bench/README.md has the times. A caller that can't wait does these in a copy of the session, on another
+ * thread, tells the copy what came since, and goes on with that.
  */
 #ifndef PGPEER_H
 #define PGPEER_H
@@ -264,6 +264,11 @@ typedef struct pgp_object {
  * PGP_NO_LIST: *count is 0, and the room stays as it was. A device above 4095 or a slot above 15 is a PGP_BAD_ARGUMENT too. */
 uint32_t pgp_missing_objects(pgp_session *session, uint32_t pool, uint32_t pg, uint32_t osd, uint32_t slot, pgp_object *room,
                              size_t room_length, size_t *count);
+
+/* Does at most `max` steps of what the next questions would have to do, and puts into *left how many are left: PGP_DONE. A step reads an
+ * entry of the log, or where all are read works out a group. So a caller that has to answer soon makes this call now and then until
+ * *left is 0. At PGP_NO_MEMORY and PGP_NOT_OPEN *left is 0. The session stays as it was: it answers sooner, and the same. */
+uint32_t pgp_work(pgp_session *session, size_t max, size_t *left);
 
 /* What a member tells of its copy of a group. */
 typedef struct pgp_info {

@@ -17,3 +17,4 @@ pub mod Log
 pub mod OpenLines
 pub mod Copy
 pub mod Report
+pub mod Work

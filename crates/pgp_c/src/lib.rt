@@ -23,6 +23,7 @@ ghost use Rattle.pgp_c.specs.Objects.{Objects};
 ghost use Rattle.pgp_c.specs.OpenLines.{OpensLines};
 ghost use Rattle.pgp_c.specs.Report.{SubmitsEntries};
 ghost use Rattle.pgp_c.specs.Submit.{SubmitsClose};
+ghost use Rattle.pgp_c.specs.Work.{Works};
 
 mod ask;
 mod compact;
@@ -45,6 +46,7 @@ mod session;
 mod status;
 mod submit;
 mod view;
+mod work;
 
 use compact::compact_log;
 use copy::open_copy;
@@ -67,6 +69,7 @@ use status::Status;
 use std::alloc::Global;
 use submit::submit;
 use view::{PgpView, put_view};
+use work::work;
 
 /// Version 0.1.1.
 const VERSION: u32 = 101;
@@ -415,6 +418,25 @@ pub extern "C" fn pgp_missing_objects(
         return Status::NotOpen.number();
     };
     let status = put_objects(&mut opened, pool, pg, osd, slot, room, count);
+    session.put(opened);
+    status
+}
+
+/// Does at most `max` steps of what the session's next questions would have to do, and puts into `left` how many are left.
+#[unsafe(no_mangle)]
+pub extern "C" fn pgp_work(
+    alloc: Global,
+    session: &mut PgpSession,
+    max: usize,
+    left: &mut usize,
+) -> u32
+    ensures { Works session.old.held.session session.new.held.session left.new result }
+{
+    *left = 0;
+    let Some(mut opened) = session.take(alloc) else {
+        return Status::NotOpen.number();
+    };
+    let status = work(&mut opened, max, left);
     session.put(opened);
     status
 }

@@ -137,6 +137,14 @@ impl Log {
         Ok(self.shard.view_of(pg))
     }
 
+    /// Does at most `max` steps of what the next questions would have to do: a step reads an entry, or works out a group where all
+    /// entries are read. How many steps are left, of the one kind or else of the other.
+    pub fn work(&mut self, max: usize) -> Result<usize, AllocError>
+        ensures { self.new ≡ self.old }
+    {
+        work_on(&mut self.shard, &self.log, max)
+    }
+
     /// The reply to an entry. Where the log takes it, the log has it from now on.
     pub fn submit(&mut self, entry: Entry) -> Result<Reply, AllocError>
         ensures reply { IfOk result (λ reply. reply ≡ submitted_reply self.old entry (fits self.old entry)) }
@@ -218,6 +226,23 @@ fn read_for(shard: &mut ShardState, log: &JudgedLog, pg: &PgId) -> Result<bool, 
     }
     shard.absorb_next(log.entries(), log.len())?;
     Ok(true)
+}
+
+/// Has the only shard of a log read entries of it, and work out groups where it has read all, in at most `max` steps. How many are left.
+/// Before the first entry it makes its groups, which are none: else the first question would make them of all entries at once.
+fn work_on(shard: &mut ShardState, log: &JudgedLog, max: usize) -> Result<usize, AllocError>
+    requires { IsReading log.now 1 0 shard.old }
+    ensures { IsReading log.now 1 0 shard.new }
+{
+    if shard.count() == 0 {
+        shard.renew(0)?;
+    }
+    let unread = log.len() - shard.count();
+    shard.absorb_next(log.entries(), max)?;
+    if max < unread {
+        return Ok(unread - max);
+    }
+    shard.renew(max - unread)
 }
 
 /// Has the only shard of a log work out the group, where there is one. It is out of memory only where an incremental was read,

@@ -178,6 +178,14 @@ impl Session {
         self.log.view(pg)
     }
 
+    /// Does at most `max` steps of what the next questions would have to do, and says how many are left: entries that are to be read, and
+    /// once all are, groups that are to be worked out. The answers stay the same.
+    pub fn work(&mut self, max: usize) -> Result<usize, AllocError>
+        ensures { self.new ≡ self.old }
+    {
+        self.log.work(max)
+    }
+
     /// Tells the log an entry, and gives the reply. Where the log takes the entry, it has it from now on.
     #[tactic(auto, unfolding(crate::specs::Session::reply_in, crate::specs::Session::log_then))]
     pub fn submit(&mut self, entry: Entry) -> Result<Reply, AllocError>

@@ -265,6 +265,24 @@ static void begun(void) {
     CHECK(pgp_close(&copy) == PGP_DONE && pgp_submit_close(&copy) == PGP_NOT_OPEN && pgp_close(&lines) == PGP_DONE);
 }
 
+// The work of the next questions, one step at a time: six entries are read, and the one group is worked out.
+static void worked(void) {
+    pgp_session copy = PGP_SESSION;
+    size_t left = 99;
+    pgp_view view, other;
+    CHECK(pgp_work(&copy, 1, &left) == PGP_NOT_OPEN && left == 0);
+    CHECK(MADE(pgp_open(&copy)) == PGP_DONE && MADE(pgp_work(&copy, 9, &left)) == PGP_DONE && left == 0);
+    CHECK(pgp_close(&copy) == PGP_DONE && MADE(pgp_open_copy(&copy, &session)) == PGP_DONE);
+    CHECK(MADE(pgp_work(&copy, 0, &left)) == PGP_DONE && left == 6);
+    for (size_t unread = 6; unread > 1; unread--) CHECK(MADE(pgp_work(&copy, 1, &left)) == PGP_DONE && left == unread - 1);
+    CHECK(MADE(pgp_work(&copy, 1, &left)) == PGP_DONE && left == 1);
+    CHECK(MADE(pgp_work(&copy, 1, &left)) == PGP_DONE && left == 0);
+    CHECK(MADE(pgp_ask(&session, 1, 0, &view)) == PGP_DONE && MADE(pgp_ask(&copy, 1, 0, &other)) == PGP_DONE);
+    CHECK(other.count == view.count && other.verdict == view.verdict && other.missing == view.missing && other.epoch == view.epoch);
+    CHECK(MADE(pgp_submit_close(&copy)) == PGP_DONE && MADE(pgp_work(&copy, 9, &left)) == PGP_DONE && left == 0);
+    CHECK(pgp_close(&copy) == PGP_DONE);
+}
+
 // A part of a member's log in values has the answer of its line.
 static void entries(void) {
     pgp_report report = {.pool = 1, .pg = 0, .osd = 1, .slot = 0, .stamp = 3};
@@ -382,6 +400,7 @@ static void all(void) {
     CHECK(pgp_close(&session) == PGP_DONE);
     CHECK(MADE(pgp_open(&session)) == PGP_DONE);
     outage();
+    worked();
     remains();
     entries();
     CHECK(pgp_close(&session) == PGP_DONE);
