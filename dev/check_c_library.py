@@ -232,7 +232,7 @@ def wrong_package(folder, program):
 CMAKE = """
 cmake_minimum_required(VERSION 3.13)
 project(outage C)
-find_package(pgpeer 0.1 REQUIRED)
+find_package(pgpeer 0.2 REQUIRED)
 foreach(kind static shared)
     add_executable(by_${kind} OUTAGE)
     target_link_libraries(by_${kind} pgpeer::${kind})

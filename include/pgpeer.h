@@ -37,8 +37,8 @@ extern "C" {
 
 /* The version of this header, in parts and as pgp_version gives it. */
 #define PGP_VERSION_MAJOR 0
-#define PGP_VERSION_MINOR 1
-#define PGP_VERSION_PATCH 1
+#define PGP_VERSION_MINOR 2
+#define PGP_VERSION_PATCH 0
 #define PGP_VERSION (PGP_VERSION_MAJOR * 10000 + PGP_VERSION_MINOR * 100 + PGP_VERSION_PATCH)
 
 /* A session. `pgp_session session = PGP_SESSION;` has it filled with zeros. */
@@ -321,7 +321,11 @@ uint32_t pgp_joined_lines(pgp_session *session, uint8_t *room, size_t room_lengt
 /* What a session knows without a group. */
 typedef struct pgp_log {
     size_t count;            /* how many entries its log has */
+    size_t incrementals;     /* how many of them are incrementals, */
+    size_t infos;            /* how many infos, */
+    size_t parts;            /* how many parts of members' logs */
     uint32_t epoch;          /* of the last map, 0 before the first */
+    uint8_t closed;          /* 1 where the log is closed, else 0 */
 } pgp_log;
 
 /* Puts what the session knows of its log into *log: PGP_DONE, or PGP_NOT_OPEN, where *log stays as it was. It takes no memory.

@@ -70,7 +70,11 @@ class Object(ctypes.Structure):
 class Log(ctypes.Structure):
     """pgp_log of pgpeer.h: what a session knows without a group."""
 
-    _fields_ = [("count", ctypes.c_size_t), ("epoch", ctypes.c_uint32)]
+    _fields_ = [
+        *((name, ctypes.c_size_t) for name in ("count", "incrementals", "infos", "parts")),
+        ("epoch", ctypes.c_uint32),
+        ("closed", ctypes.c_uint8),
+    ]
 
 
 class Session:

@@ -71,8 +71,8 @@ use submit::submit;
 use view::{PgpView, put_view};
 use work::work;
 
-/// Version 0.1.1.
-const VERSION: u32 = 101;
+/// Version 0.2.0.
+const VERSION: u32 = 200;
 
 /// Opens a session with an empty log, which reads lines of versions 1 and 2.
 #[unsafe(no_mangle)]

@@ -111,7 +111,7 @@ fn pgpeer<'a>(alloc: Global) -> Result<Command<'a>, AllocError> {
     let explain = explain(alloc)?;
     let compact = compact(alloc)?;
     Command::new(alloc, "pgpeer")
-        .version("0.1.1")
+        .version("0.2.0")
         .about("Says where objects lie and whether placement groups may serve, from lines of JSON")
         .after_help(HELP)
         .subcommand_required(true)

@@ -11,3 +11,4 @@ pub mod RunLemmas
 pub mod TurnLemmas
 pub mod HistoryLemmas
 pub mod AddedLemmas
+pub mod CountsLemmas

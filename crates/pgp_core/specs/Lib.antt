@@ -17,3 +17,4 @@ pub mod Telling
 pub mod Session
 pub mod Examples
 pub mod Worked
+pub mod Counts

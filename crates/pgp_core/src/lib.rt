@@ -7,6 +7,7 @@
 mod accepted;
 mod answer;
 mod codec;
+mod counts;
 mod fault;
 mod history;
 mod input;
@@ -22,6 +23,7 @@ mod want;
 mod whole;
 
 pub use answer::{Answerer, NoReply, asked_reply, put_reply};
+pub use counts::EntryCounts;
 pub use fault::ScriptFault;
 pub use input::{Bounds, SCRIPT_BOUNDS, split_line};
 pub use line::{LONGEST_LINE, all_blank};

@@ -1,5 +1,5 @@
 //! The log of a script, and what it takes next.
-ghost use Rattle.std.specs.Prelude.{◌≡◌, List, [], length, map, is_some, option_copied, option_map, false, true, IfOk, OnOk, OnErr};
+ghost use Rattle.std.specs.Prelude.{◌≡◌, ◌∷◌, ◌++◌, List, [], length, map, is_some, option_copied, option_map, false, true, IfOk, OnOk, OnErr};
 ghost use Rattle.std.specs.Arc.{arc_value};
 ghost use Rattle.std.specs.Borrow.{sem};
 ghost use Rattle.std.specs.Io.BufRead.{Rests};
@@ -16,9 +16,11 @@ ghost use Rattle.pgp_log.specs.RawSets.{AreRawSets};
 ghost use Rattle.pgp_shard.specs.Running.{IsReading};
 ghost use Rattle.pgp_shard.specs.Shard.{HasReadSame, is_marked, is_own};
 ghost use Rattle.pgp_core.specs.Answer.{located_reply, log_with, submitted_reply};
+ghost use Rattle.pgp_core.specs.Counts.{counts_of};
 ghost use Rattle.pgp_core.specs.Wants.{MayFindNone};
 
 use super::answer::{Answerer, NoReply, put_view};
+use super::counts::EntryCounts;
 use super::want::Want;
 use pgp_ids::{AskRefusal, Entry, LocateRefusal, ObjectName, PgId, PoolId, Refusal, View};
 use pgp_log::{JudgedLog, RawSets};
@@ -34,6 +36,7 @@ use std::sync::Arc;
 #[derive(Drop)]
 pub struct Log {
     log: JudgedLog,
+    counts: EntryCounts,
     /// The only one of its log.
     shard: ShardState,
     raw_sets: RawSets,
@@ -45,6 +48,7 @@ impl Model for Log {
     ghost view = { λ log. log.log };
 
     ghost invariant = { λ log. record {
+      counts_are : log.counts ≡ counts_of log.log;
       shard_is : IsReading log.log 1 0 log.shard;
       raw_sets : AreRawSets (incs_of log.log) log.raw_sets;
     } };
@@ -72,8 +76,10 @@ impl Log {
     fn of(alloc: Global, log: JudgedLog) -> Self
         ensures { result ≡ log }
     {
+        let counts = EntryCounts::of(log.entries());
         Log {
             log,
+            counts,
             shard: ShardState::start(alloc, 0, 1),
             raw_sets: RawSets::new(alloc),
         }
@@ -92,6 +98,21 @@ impl Log {
         ensures legal { is_legal self.now ≡ true }
     {
         self.log.entries()
+    }
+
+    /// How many entries of each kind it has.
+    pub fn counts(&self) -> EntryCounts
+        ensures { result ≡ counts_of self.now }
+    {
+        self.counts
+    }
+
+    /// The counts with this entry more.
+    fn counts_with(&self, entry: &Entry) -> EntryCounts
+        ensures { result ≡ counts_of (self.now ++ entry.now ∷ []) }
+    {
+        let _legal = self.log.entries();
+        self.counts.with(entry)
     }
 
     /// Where the object of this name lies by the map that the entries make: the reply to a question that changes nothing.
@@ -173,7 +194,9 @@ impl Log {
         match self.log.fits(&entry) {
             Ok(()) => {
                 self.raw_sets.follow(&entry);
+                let counts = self.counts_with(&entry);
                 self.log.take(entry)?;
+                self.counts = counts;
                 Ok(None)
             }
             Err(Refusal::Memory) => Err(AllocError),

@@ -8,12 +8,14 @@ ghost use Rattle.pgp_group.specs.Touched.{view_at};
 ghost use Rattle.pgp_log.specs.Log.{epoch_of, is_legal};
 ghost use Rattle.pgp_lines.specs.declared.command.Command.TheVariants.{Locate, Submit};
 ghost use Rattle.pgp_core.specs.Added.{IsOutcome, added_by, with_added};
+ghost use Rattle.pgp_core.specs.Counts.{counts_of};
 ghost use Rattle.pgp_core.specs.Script.{MayMeet, answer, log_past};
 ghost use Rattle.pgp_core.specs.Session.{LogAndAnswer, last_text, log_then, met_by, reply_in, view_in};
 ghost use Rattle.pgp_core.specs.Wants.{MayFindNone};
 
 use super::answer::{NoReply, answer_line};
 use super::codec::Codec;
+use super::counts::EntryCounts;
 use super::line::{LONGEST_LINE, all_blank, long_line, want_line};
 use super::log::Log;
 use super::outcome::LineOutcome;
@@ -135,6 +137,13 @@ impl Session {
         ensures { result ≡ epoch_of self.now.log }
     {
         self.log.map().epoch()
+    }
+
+    /// How many entries of each kind its log has. It takes no memory.
+    pub fn counts(&self) -> EntryCounts
+        ensures { result ≡ counts_of self.now.log }
+    {
+        self.log.counts()
     }
 
     /// What was written for the last line, with its line feed.

@@ -201,11 +201,12 @@ static void remains(void) {
     pgp_log log;
     CHECK(MADE(pgp_submit_info(&session, &info)) == PGP_DONE);
     CHECK(pgp_ask_log(&session, &log) == PGP_DONE);
-    CHECK(log.count == 7 && log.epoch == 3);
+    CHECK(log.count == 7 && log.epoch == 3 && log.incrementals == 3 && log.infos == 3 && log.parts == 1 && log.closed == 0);
     CHECK(MADE(pgp_needed(&session, room, 6, &count)) == PGP_ROOM_TOO_SMALL && count == 7 && room[0] == 7);
     CHECK(MADE(pgp_needed(&session, room, 8, &count)) == PGP_DONE && count == 7);
     CHECK(memcmp(room, "\1\1\1\0\1\1\1\7", 8) == 0);
     CHECK(MADE(pgp_compact_log(&session, &count)) == PGP_DONE && count == 1);
+    CHECK(pgp_ask_log(&session, &log) == PGP_DONE && log.count == 6 && log.incrementals == 3 && log.infos == 2 && log.parts == 1);
     CHECK(MADE(pgp_needed(&session, room, 8, &count)) == PGP_DONE && count == 6 && memcmp(room, "\1\1\1\1\1\1\1\7", 8) == 0);
 }
 
@@ -260,8 +261,9 @@ static void begun(void) {
     CHECK(MADE(pgp_ask(&session, 1, 0, &view)) == PGP_DONE && MADE(pgp_ask(&copy, 1, 0, &other)) == PGP_DONE);
     CHECK(other.count == view.count && other.verdict == view.verdict && other.missing == view.missing && other.epoch == view.epoch);
     CHECK(MADE(pgp_submit_close(&copy)) == PGP_DONE && MADE(pgp_submit_close(&copy)) == PGP_CLOSED);
-    CHECK(pgp_ask_log(&copy, &log) == PGP_DONE && log.count == view.count + 1);
-    CHECK(pgp_ask_log(&session, &log) == PGP_DONE && log.count == view.count);
+    CHECK(pgp_ask_log(&copy, &log) == PGP_DONE && log.count == view.count + 1 && log.closed == 1);
+    CHECK(log.incrementals + log.infos + log.parts == view.count);
+    CHECK(pgp_ask_log(&session, &log) == PGP_DONE && log.count == view.count && log.closed == 0);
     CHECK(pgp_close(&copy) == PGP_DONE && pgp_submit_close(&copy) == PGP_NOT_OPEN && pgp_close(&lines) == PGP_DONE);
 }
 
@@ -404,7 +406,7 @@ static void all(void) {
     remains();
     entries();
     CHECK(pgp_close(&session) == PGP_DONE);
-    CHECK(pgp_version() == 101);
+    CHECK(pgp_version() == 200);
 }
 
 int main(int argc, char **argv) {

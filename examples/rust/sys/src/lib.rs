@@ -61,7 +61,11 @@ pub struct View {
 #[derive(Clone, Copy, Debug, Default)]
 pub struct Log {
     pub count: usize,
+    pub incrementals: usize,
+    pub infos: usize,
+    pub parts: usize,
     pub epoch: u32,
+    pub closed: u8,
 }
 
 /// `pgp_member`: a device in a slot.
