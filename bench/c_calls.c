@@ -8,6 +8,8 @@
 //     c_calls turn COUNT      an info of the group told by pgp_submit_info, and what is said of it then, by pgp_ask
 //     c_calls turnlist COUNT  the same, and its past intervals by pgp_intervals
 //     c_calls turnline COUNT  an info and a question by pgp_line
+//     c_calls opened 1        what is said of the group for the first time, by pgp_ask
+//     c_calls worked MAX      the longest call of pgp_work, with so many steps at once, until none is left
 //
 // A session is told the lines of standard input first, which isn't timed. Prints how many calls were timed, and the seconds of the
 // processor that they took.
@@ -142,6 +144,24 @@ static double turns(pgp_session *session, long count, bool by_line, bool with_li
     return now() - before;
 }
 
+static double opened(pgp_session *session) {
+    pgp_view view;
+    double before = now();
+    done(pgp_ask(session, 1, 0, &view));
+    return now() - before;
+}
+
+static double longest(pgp_session *session, size_t max) {
+    double most = 0;
+    for (size_t left = 1; left > 0;) {
+        double before = now();
+        done(pgp_work(session, max, &left));
+        double spent = now() - before;
+        if (spent > most) most = spent;
+    }
+    return most;
+}
+
 int main(int argc, char **argv) {
     if (argc != 3) return 2;
     const char *mode = argv[1];
@@ -157,6 +177,11 @@ int main(int argc, char **argv) {
     if (!strcmp(mode, "ask")) spent = asked(&session, count, false);
     if (!strcmp(mode, "askline")) spent = asked(&session, count, true);
     if (!strncmp(mode, "turn", 4)) spent = turns(&session, count, !strcmp(mode, "turnline"), !strcmp(mode, "turnlist"));
+    if (!strcmp(mode, "opened")) spent = opened(&session);
+    if (!strcmp(mode, "worked")) {
+        spent = longest(&session, (size_t)count);
+        count = 1;
+    }
     done(pgp_close(&session));
     printf("%ld %.9f\n", strcmp(mode, "first") ? count : count * (long)groups, spent);
     return 0;

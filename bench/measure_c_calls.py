@@ -30,6 +30,7 @@ from measure import HERE, command_line, measure, table
 from compare_with_ceph import text_of
 
 ASKS, KEPT, ROUNDS, INPUTS, LINES = 400_000, 2_000_000, 20, 100_000, 200_000
+STEPS = (1, 64)
 TURNS = {1: 50_000, 4_000: 1_000}  # how many, by the past intervals of the group
 
 
@@ -110,7 +111,12 @@ def ways(options, folder):
         located, asked = (lambda number: compact({"op": "locate", "pool": 1, "name": f"object-{number % 4096}"})), (lambda _: compact({"op": "ask", "pg": [1, 0]}))
         kept.append(("`pgpeer run`, a line with a `locate`", lambda: by_program(options.program, places, LINES, located)))
         view.append(("`pgpeer run`, a line with an `ask`", lambda: by_program(options.program, asks, LINES, asked)))
-    return [first, kept, view, *(turns(options, calls, intervals, count) for intervals, count in TURNS.items())]
+    full = "".join(line + "\n" for line in made("full")).encode()
+    work = [("`pgp_ask`, the first of a full log", lambda: by_library(calls, "opened", 1, full))]
+    work += [
+        (f"`pgp_work` of {steps} steps there, the longest", functools.partial(by_library, calls, "worked", steps, full)) for steps in STEPS
+    ]
+    return [first, kept, view, work, *(turns(options, calls, intervals, count) for intervals, count in TURNS.items())]
 
 
 def turns(options, calls, intervals, count):
