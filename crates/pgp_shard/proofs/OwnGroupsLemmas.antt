@@ -179,3 +179,8 @@ pub view-told : (log : List Entry) (groups : Groups) (pg : PgId) (told : Option 
 view-told log groups pg None there says unmarked =
     sym (no-view log pg (sym (there ∙ ap (λ b. has_group (incs_of log) pg && not b) unmarked ∙ and-true (has_group (incs_of log) pg))))
 view-told log groups pg (Some view) there says unmarked = says
+
+-- the view that is lent, at the log's count and epoch
+pub view-lent : (log : List Entry) (pg : PgId) (told : Option (Bor View)) (view : Bor View) → scratch log pg ≡ option_map (view_at (length log) (epoch_of log)) (option_copied told)
+    → told ≡ Some view → scratch log pg ≡ Some (view_at (length log) (epoch_of log) view.now)
+view-lent log pg told view says is = says ∙ ap (λ (o : Option (Bor View)). option_map (view_at (length log) (epoch_of log)) (option_copied o)) is

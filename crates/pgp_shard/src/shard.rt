@@ -17,7 +17,7 @@ ghost use Rattle.pgp_shard.specs.Shard.{opening_shard, having_read, having_read_
 use super::copies::copy_at;
 use super::groups::Groups;
 use super::owner::Owner;
-use pgp_ids::{AskRefusal, Entry, PgId, View};
+use pgp_ids::{AskRefusal, Entry, Epoch, PgId, View};
 use pgp_log::is_close;
 use std::alloc::{AllocError, Global};
 use std::marker::Model;
@@ -199,21 +199,31 @@ impl ShardState {
         self.copy(&pg)
     }
 
-    /// A copy of all that the shard has read says of one of its groups, which isn't marked.
-    fn copy(&self, pg: &PgId) -> Result<View, AskRefusal>
-        requires own { is_own self.now.shard self.now.shards pg.now ≡ true }
-        requires there { has_group (incs_of self.now.front) pg.now ≡ true }
-        requires unmarked { is_marked self.now pg.now ≡ false }
-        ensures ok { IfOk result (λ view. scratch self.now.front pg.now ≡ Some view) }
-        ensures err { OnErr result (result ≡ Err Memory) }
+    /// The epoch of the map that what the shard has read makes. The marks are there, as they are once a group was worked out.
+    pub fn epoch(&self) -> Epoch
+        requires { is_some self.now.marks ≡ true }
+        ensures { result ≡ epoch_of self.now.front }
     {
         let Some(groups) = &self.groups else {
             unreachable!();
         };
-        let Some(view) = groups.view_of(pg) else {
-            unreachable!();
+        groups.map.epoch()
+    }
+
+    /// A copy of all that the shard has read says of one of its groups, which isn't marked. The marks are there. `UnknownGroup`:
+    /// what was read makes no such group. `Memory`: it makes the group.
+    pub fn copy(&self, pg: &PgId) -> Result<View, AskRefusal>
+        requires own { is_own self.now.shard self.now.shards pg.now ≡ true }
+        requires kept { is_some self.now.marks ≡ true }
+        requires unmarked { is_marked self.now pg.now ≡ false }
+        ensures ok { IfOk result (λ view. scratch self.now.front pg.now ≡ Some view) }
+        ensures unknown { result ≡ Err UnknownGroup → has_group (incs_of self.now.front) pg.now ≡ false }
+        ensures wants { result ≡ Err Memory → has_group (incs_of self.now.front) pg.now ≡ true }
+    {
+        let Some(view) = self.view_of(pg) else {
+            return Err(AskRefusal::UnknownGroup);
         };
-        let copy = copy_at(self.alloc, view, groups.map.epoch(), self.front.len())?;
+        let copy = copy_at(self.alloc, view, self.epoch(), self.front.len())?;
         Ok(copy)
     }
 
