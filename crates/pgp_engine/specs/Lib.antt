@@ -5,6 +5,7 @@ pub mod Followers
 pub mod Fronts
 pub mod Intakes
 pub mod Shards
+pub mod Shown
 pub mod Asks
 pub mod Sizes
 pub mod Works

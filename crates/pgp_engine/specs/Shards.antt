@@ -1,8 +1,10 @@
 -- A shard that reads the feed, and what it does.
-use Rattle.std.specs.Prelude.{◌≡◌, ℕ, ◌+◌, ◌<◌, ◌⊎◌, List, length, Option, true}
+use Rattle.std.specs.Prelude.{◌≡◌, ℕ, ◌+◌, ◌<◌, ◌⊎◌, List, length, Option, is_some, true}
 use Rattle.logbook.specs.Pages.{Book}
 use Rattle.pgp_ids.specs.declared.entry.Entry.{Entry}
 use Rattle.pgp_ids.specs.declared.pg_id.PgId.{PgId}
+use Rattle.pgp_map.specs.Pools.{has_group}
+use Rattle.pgp_group.specs.Entries.{incs_of}
 use Rattle.pgp_log.specs.Log.{front, IsFrontOf}
 use Rattle.pgp_shard.specs.Shard.{AreUnmarked, HasReadSame, Shard, is_own}
 use Rattle.pgp_feed.specs.declared.receipt.Receipt.{Receipt}
@@ -55,6 +57,10 @@ pub record StaysThere (old new : Reader) : Type 0 where
 -- the shard had read less than its tap gave, or than the caller's receipt names
 abbrev pub HadToRead : Reader → Reader → Receipt → Type 0
 HadToRead old new q = (length old.front < length new.seen) ⊎ (length old.front < length (entries_of q))
+
+-- the same, or the map has the group, where the shard kept its groups before
+abbrev pub LacksThere : Reader → Reader → PgId → Receipt → Type 0
+LacksThere old new pg q = is_some old.marks ≡ true → HadToRead old new q ⊎ (has_group (incs_of new.front) pg ≡ true)
 
 -- the shard has read this many entries more, or all that there were: its tap gave a newest front, and it has read that one so
 -- far. That front was published at some moment of the call. That it holds all that was published when the call began no clause

@@ -32,6 +32,6 @@ pub use fault::{AskFault, SubmitFault};
 pub use gate::{Gate, Open};
 pub use intake::Intake;
 pub use naming::Naming;
-pub use pgp_feed::MakeFault;
+pub use pgp_feed::{MakeFault, ReadFault};
 pub use shard::Shard;
 pub use submit_answer::SubmitAnswer;

@@ -1,18 +1,21 @@
 //! What any thread asks of an engine.
 ghost use Rattle.std.specs.Prelude.{◌≡◌, ◌<◌, None, IfOk, IfErr, MatchResult};
+ghost use Rattle.std.specs.Sync.Mutex.{mutex_guard_value};
 ghost use Rattle.pgp_log.specs.Log.{epoch_of};
 ghost use Rattle.pgp_feed.specs.Receipts.{entries_of, feed_of};
 ghost use Rattle.pgp_engine.specs.Asks.{IsAnswer, MayFailToAnswer};
 ghost use Rattle.pgp_engine.specs.Faults.{fault_at};
 ghost use Rattle.pgp_engine.specs.Intakes.{IsSubmitted, MayFailToSubmit};
+ghost use Rattle.pgp_engine.specs.Shown.{IsShown};
 
 use super::Engine;
 use super::locks::{intake_turn, shard_turn, turn_of};
 use crate::answer::Answer;
 use crate::fault::{AskFault, SubmitFault};
 use crate::naming::Naming;
+use crate::shard::Shard;
 use crate::submit_answer::SubmitAnswer;
-use pgp_feed::Receipt;
+use pgp_feed::{ReadFault, Receipt};
 use pgp_ids::{Entry, PgId};
 use std::sync::{MutexGuard, Wait};
 
@@ -78,6 +81,23 @@ impl<J: Naming> Engine<J> {
         ensures { MatchResult result (IsAnswer q.now pg) (MayFailToAnswer q.now pg) }
     {
         shard_turn(rt, self.shards.as_slice(), &pg).ask(pg, q)
+    }
+
+    /// A turn of the lock of the group's shard, which has worked the group out by a front that holds the caller's. As long as the
+    /// turn is kept, [`Shard::view_of`](crate::Shard::view_of) lends the view from where it lies, so that nothing is copied. Let it
+    /// go before the next call of the engine.
+    pub fn show<R: Wait>(
+        &self,
+        rt: &R,
+        pg: PgId,
+        q: &Receipt,
+    ) -> Result<MutexGuard<'_, Shard<J>>, ReadFault>
+        requires { feed_of q.now ≡ J.feed }
+        ensures { IfOk result (λ turn. IsShown q.now pg (mutex_guard_value turn)) }
+    {
+        let mut turn = shard_turn(rt, self.shards.as_slice(), &pg);
+        turn.work_out(&pg, q)?;
+        Ok(turn)
     }
 
     /// Lets a shard read at most this many further entries of the log, and answers the receipt of what it has read then.

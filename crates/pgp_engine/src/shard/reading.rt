@@ -1,15 +1,13 @@
 //! How a shard reads on.
-ghost use Rattle.std.specs.Prelude.{◌≡◌, ◌+◌, ◌<◌, ◌≤◌, [], ◌∷◌, length, None, IfErr, OnOk, OnErr};
+ghost use Rattle.std.specs.Prelude.{◌≡◌, ◌+◌, ◌<◌, ◌≤◌, [], ◌∷◌, length, OnOk, OnErr};
 ghost use Rattle.pgp_log.specs.Log.{front, IsFrontOf};
 ghost use Rattle.pgp_feed.specs.Receipts.{entries_of, feed_of, Holds};
 ghost use Rattle.pgp_feed.specs.Taps.{last_of};
-ghost use Rattle.pgp_engine.specs.Faults.{fault_at};
 ghost use Rattle.pgp_engine.specs.Shards.{ReadsOn};
 
 use crate::entry_buffer::EntryBuffer;
-use crate::fault::AskFault;
 use crate::follower::Follower;
-use pgp_feed::{Receipt, Tap};
+use pgp_feed::{ReadFault, Receipt, Tap};
 use pgp_ids::Entry;
 use pgp_shard::ShardState;
 use std::alloc::AllocError;
@@ -48,7 +46,7 @@ pub(super) fn read_to(
     tap: &mut Tap,
     buffer: &mut EntryBuffer,
     target: &Receipt,
-) -> Result<(), AskFault>
+) -> Result<(), ReadFault>
     requires feed { feed_of target.now ≡ feed_of (last_of tap.old) }
     requires more { IsFrontOf state.old.front (entries_of target.now) }
     requires seen { IsFrontOf state.old.front (entries_of (last_of tap.old)) }
@@ -57,9 +55,7 @@ pub(super) fn read_to(
     ensures seen { IsFrontOf state.new.front (entries_of (last_of tap.new)) }
     ensures ok { OnOk result (state.new.front ≡ entries_of target.now) }
     ensures marks { OnOk result (state.new.front ≡ state.old.front → state.new.marks ≡ state.old.marks) }
-    ensures err { IfErr result (λ fault. fault_at fault ≡ None) }
     ensures reads { OnErr result (length state.old.front < length (entries_of target.now)) }
 {
-    buffer.bring(state, tap, target)?;
-    Ok(())
+    buffer.bring(state, tap, target)
 }

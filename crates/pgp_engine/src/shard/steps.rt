@@ -1,17 +1,18 @@
 //! What a shard does.
-ghost use Rattle.std.specs.Prelude.{◌≡◌, ◌≢◌, ◌<◌, ◌⊎◌, ◌↔◌, [], length, true, false, None, Some, Err, IsTrue, IsSome, IfOk, IfErr, IfSome, OnOk, OnErr, MatchResult};
+ghost use Rattle.std.specs.Prelude.{◌≡◌, ◌≢◌, ◌<◌, ◌⊎◌, ◌↔◌, [], length, is_some, true, false, None, Some, Err, IsTrue, IsSome, IfOk, IfErr, IfSome, OnOk, OnErr, MatchResult};
 ghost use Rattle.pgp_map.specs.Pools.{has_group};
 ghost use Rattle.pgp_group.specs.Entries.{incs_of};
 ghost use Rattle.pgp_group.specs.View.{scratch};
 ghost use Rattle.pgp_log.specs.Fits.{is_closed};
-ghost use Rattle.pgp_log.specs.Log.{is_legal, HasInc, IsFrontOf};
+ghost use Rattle.pgp_log.specs.Log.{epoch_of, is_legal, HasInc, IsFrontOf};
 ghost use Rattle.pgp_shard.specs.Shard.{AreUnmarked};
 ghost use Rattle.pgp_feed.specs.Receipts.{entries_of, feed_of};
 ghost use Rattle.pgp_feed.specs.Taps.{last_of};
 ghost use Rattle.pgp_engine.specs.Asks.{IsAnswer, MayFailToAnswer};
 ghost use Rattle.pgp_engine.specs.Faults.{fault_at};
 ghost use Rattle.pgp_engine.specs.Fronts.{Names};
-ghost use Rattle.pgp_engine.specs.Shards.{GoesOn, HadToRead, HasAbsorbed, RenewsIfIdle, Serves, StaysThere, state_of};
+ghost use Rattle.pgp_engine.specs.Shards.{GoesOn, HadToRead, HasAbsorbed, LacksThere, RenewsIfIdle, Serves, StaysThere, state_of};
+ghost use Rattle.pgp_engine.specs.Shown.{HasWorkedOut, IsShown, Shows};
 ghost use Rattle.pgp_engine.specs.declared.fault.AskFault.TheVariants.{Memory, NoReader};
 
 use super::Shard;
@@ -20,8 +21,8 @@ use crate::answer::Answer;
 use crate::entry_buffer::EntryBuffer;
 use crate::fault::AskFault;
 use crate::naming::Naming;
-use pgp_feed::{Receipt, Tap};
-use pgp_ids::{AskRefusal, PgId};
+use pgp_feed::{ReadFault, Receipt, Tap};
+use pgp_ids::{AskRefusal, Epoch, PgId, View};
 use pgp_shard::ShardState;
 use std::alloc::Global;
 use std::marker::PhantomData;
@@ -55,7 +56,7 @@ impl<J: Naming> Shard<J> {
     }
 
     /// Reads the entries up to those that a receipt of the same feed names. Without memory it may have read some of them.
-    fn absorb_to(&mut self, target: &Receipt) -> Result<(), AskFault>
+    fn absorb_to(&mut self, target: &Receipt) -> Result<(), ReadFault>
         requires feed { feed_of target.now ≡ J.feed }
         requires more { IsFrontOf self.old.front (entries_of target.now) }
         ensures on { GoesOn self.old self.new }
@@ -63,7 +64,6 @@ impl<J: Naming> Shard<J> {
         ensures marks { OnOk result (self.new.front ≡ self.old.front → self.new.marks ≡ self.old.marks) }
         ensures seen { IsFrontOf self.new.front self.new.seen }
         ensures legal { is_legal self.new.front ≡ true }
-        ensures err { IfErr result (λ fault. fault_at fault ≡ None) }
         ensures reads { OnErr result (length self.old.front < length (entries_of target.now)) }
     {
         let read = read_to(&mut self.state, &mut self.tap, &mut self.buffer, target);
@@ -136,19 +136,63 @@ impl<J: Naming> Shard<J> {
         self.state.is_closed()
     }
 
-    /// What the shard has read says of one of its groups.
-    fn view(&mut self, pg: PgId) -> Result<Answer, AskFault>
-        requires serves { Serves self.old pg }
-        ensures same { StaysThere self.old self.new }
-        ensures view { IfOk result (λ answer. scratch self.old.front pg ≡ Some answer.view) }
-        ensures absent { IfErr result (λ fault. IsSome (fault_at fault) → has_group (incs_of self.old.front) pg ≡ false) }
-        ensures named { IfOk result (λ answer. Names J.feed self.old.front answer.at) }
-        ensures err_named { IfErr result (λ fault. IfSome (fault_at fault) (Names J.feed self.old.front)) }
-        ensures reads { result ≢ Err NoReader }
-        ensures wants { result ≡ Err Memory → HasInc self.new.front }
+    /// The receipt of what it has read.
+    pub fn receipt(&self) -> Receipt
+        ensures { Names J.feed self.now.front result }
     {
-        let at = self.front.again();
-        match self.state.ask(pg) {
+        self.front.again()
+    }
+
+    /// The epoch of the map that what it has read makes. It has worked out a group.
+    pub fn epoch(&self) -> Epoch
+        requires { is_some self.now.marks ≡ true }
+        ensures { result ≡ epoch_of self.now.front }
+    {
+        self.state.epoch()
+    }
+
+    /// What it has read says of a group that it has worked out, except for count and epoch. `None`: there is no such group.
+    pub fn view_of(&self, pg: &PgId) -> Option<&View>
+        requires { HasWorkedOut self.now pg.now }
+        ensures { Shows self.now.front pg.now result }
+    {
+        self.state.view_of(pg)
+    }
+
+    /// Reads on, up to the newest front or to the caller's, and works out one of the shard's groups by what it has read then.
+    /// `NoReader`: there was something to read. `Memory`: there was, or the map isn't empty, and has the group where the shard
+    /// kept its groups before.
+    pub fn work_out(&mut self, pg: &PgId, q: &Receipt) -> Result<(), ReadFault>
+        requires feed { feed_of q.now ≡ J.feed }
+        requires serves { Serves self.old pg.now }
+        ensures on { GoesOn self.old self.new }
+        ensures shown { OnOk result (IsShown q.now pg.now self.new) }
+        ensures reads { result ≡ Err ReadFault.NoReader → HadToRead self.old self.new q.now }
+        ensures wants { result ≡ Err ReadFault.Memory → HadToRead self.old self.new q.now ⊎ HasInc self.new.front }
+        ensures wants_there { result ≡ Err ReadFault.Memory → LacksThere self.old self.new pg.now q.now }
+    {
+        let newest = self.tap.newest();
+        let target = newest.longer(q);
+        self.absorb_to(&target)?;
+        match self.state.work_out(pg) {
+            Ok(()) => Ok(()),
+            Err(AskRefusal::UnknownGroup) => Ok(()),
+            Err(AskRefusal::Memory) => Err(ReadFault::Memory),
+        }
+    }
+
+    /// A copy of what the shard has read says of a group that it has worked out.
+    fn copy(&self, pg: PgId) -> Result<Answer, AskFault>
+        requires { HasWorkedOut self.now pg }
+        ensures view { IfOk result (λ answer. scratch self.now.front pg ≡ Some answer.view) }
+        ensures absent { IfErr result (λ fault. IsSome (fault_at fault) → has_group (incs_of self.now.front) pg ≡ false) }
+        ensures named { IfOk result (λ answer. Names J.feed self.now.front answer.at) }
+        ensures err_named { IfErr result (λ fault. IfSome (fault_at fault) (Names J.feed self.now.front)) }
+        ensures reads { result ≢ Err NoReader }
+        ensures wants { result ≡ Err Memory → has_group (incs_of self.now.front) pg ≡ true }
+    {
+        let at = self.receipt();
+        match self.state.copy(&pg) {
             Ok(view) => Ok(Answer { view, at }),
             Err(AskRefusal::UnknownGroup) => Err(AskFault::UnknownGroup { at }),
             Err(AskRefusal::Memory) => Err(AskFault::Memory),
@@ -158,7 +202,7 @@ impl<J: Naming> Shard<J> {
     /// All that the log says of one of the shard's groups, by a front that holds the caller's. The shard reads on first, up
     /// to the newest front or to the caller's, and answers by what it has read then, which the answer's receipt names.
     /// `UnknownGroup`: that front makes no such group. `NoReader`: there was something to read. `Memory`: there was, or the map
-    /// isn't empty.
+    /// isn't empty, and has the group where the shard kept its groups before.
     pub fn ask(&mut self, pg: PgId, q: &Receipt) -> Result<Answer, AskFault>
         requires feed { feed_of q.now ≡ J.feed }
         requires serves { Serves self.old pg }
@@ -168,10 +212,9 @@ impl<J: Naming> Shard<J> {
         ensures unknown_front { IfErr result (λ fault. IfSome (fault_at fault) (Names J.feed self.new.front)) }
         ensures reads { result ≡ Err NoReader → HadToRead self.old self.new q.now }
         ensures wants { result ≡ Err Memory → HadToRead self.old self.new q.now ⊎ HasInc self.new.front }
+        ensures wants_there { result ≡ Err Memory → LacksThere self.old self.new pg q.now }
     {
-        let newest = self.tap.newest();
-        let target = newest.longer(q);
-        self.absorb_to(&target)?;
-        self.view(pg)
+        self.work_out(&pg, q)?;
+        self.copy(pg)
     }
 }

@@ -7,26 +7,14 @@ use Rattle.pgp_engine.proofs.shard.reading.read_to.Goals as goal
 pub bring-requires-clause-follows : goal.bring-requires-clause-follows
 bring-requires-clause-follows c = record { taken = c.args.state.now.front; is_front = c.requires.more; is = refl }
 
-pub returns-in_err-bring-clause-on : goal.returns-in_err-bring-clause-on
-returns-in_err-bring-clause-on c =
-    let e = c.in_err-bring.ensures in
-    reads_on (entries_of c.args.target.now) c.args.state.now c.bring.new.follower (e.more c.args.state.now.front refl c.requires.more) e.same
-
-pub returns-in_err-bring-clause-seen : goal.returns-in_err-bring-clause-seen
-returns-in_err-bring-clause-seen c =
-    let e = c.in_err-bring.ensures in
-    still_seen c.args.state.now c.bring.new.follower c.args.target.now (last_of c.args.tap.now) (last_of c.bring.new.tap) e.seen
-    (reads_on (entries_of c.args.target.now) c.args.state.now c.bring.new.follower (e.more c.args.state.now.front refl c.requires.more) e.same).within
-    c.requires.seen e.later.front
-
 pub returns-clause-on : goal.returns-clause-on
 returns-clause-on c =
-    let e = c.in_ok-bring.ensures in
+    let e = c.bring.ensures in
     reads_on (entries_of c.args.target.now) c.args.state.now c.bring.new.follower (e.more c.args.state.now.front refl c.requires.more) e.same
 
 pub returns-clause-seen : goal.returns-clause-seen
 returns-clause-seen c =
-    let e = c.in_ok-bring.ensures in
+    let e = c.bring.ensures in
     still_seen c.args.state.now c.bring.new.follower c.args.target.now (last_of c.args.tap.now) (last_of c.bring.new.tap) e.seen
     (reads_on (entries_of c.args.target.now) c.args.state.now c.bring.new.follower (e.more c.args.state.now.front refl c.requires.more) e.same).within
     c.requires.seen e.later.front
