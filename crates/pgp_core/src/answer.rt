@@ -87,16 +87,6 @@ pub trait Answerer {
         ensures lacks { IfErr result (LacksReply alone (Ask pg)) };
 }
 
-/// The reply to a question about a group of which this is said.
-pub fn asked_reply(pg: PgId, view: Option<View>) -> Reply
-    ensures { result ≡ asked_reply pg view }
-{
-    match view {
-        Some(view) => Reply::Asked(pg, view),
-        None => Reply::Refused(LineRefusal::Ask(AskRefusal::UnknownGroup)),
-    }
-}
-
 /// The reply to a trace of a group whose pool is of this kind: its intervals in these epochs.
 pub fn traced_reply(
     alloc: Global,
@@ -212,8 +202,8 @@ fn put_fault(
     put_reply(alloc, writer, &reply, text).or(Err(NoReply::Memory(Want::Line)))
 }
 
-/// Puts what the log says of a group behind the text, with a line feed: the text of the reply [`asked_reply`], written from where the
-/// view is kept. Count and epoch are those of the log.
+/// Puts the reply to a question about a group behind the text, with a line feed, written from where the view is kept. Count and
+/// epoch are those of the log.
 pub fn put_view(
     alloc: Global,
     writer: &mut ReplyWriter,
@@ -228,7 +218,8 @@ pub fn put_view(
     ensures err { OnErr result (text.new.items ≡ text.old.items) }
 {
     let Some(view) = view else {
-        return put_reply(alloc, writer, &asked_reply(pg, None), text);
+        let unknown = Reply::Refused(LineRefusal::Ask(AskRefusal::UnknownGroup));
+        return put_reply(alloc, writer, &unknown, text);
     };
     let before = text.len();
     writer.put_asked(alloc, pg, view, count, epoch, text)?;

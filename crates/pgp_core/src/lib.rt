@@ -22,7 +22,7 @@ mod streams;
 mod want;
 mod whole;
 
-pub use answer::{Answerer, NoReply, asked_reply, put_reply};
+pub use answer::{Answerer, NoReply, put_view};
 pub use counts::EntryCounts;
 pub use fault::ScriptFault;
 pub use input::{Bounds, SCRIPT_BOUNDS, split_line};

@@ -1,16 +1,12 @@
 //! The replies of an engine to commands.
-ghost use Rattle.std.specs.Prelude.{◌≡◌, [], false, IfOk, IfErr};
-ghost use Rattle.pgp_lines.specs.declared.command.Command.TheVariants.{Ask};
-ghost use Rattle.pgp_group.specs.View.{scratch};
-ghost use Rattle.pgp_core.specs.Answerer.{MayAnswerBy, Replies};
-ghost use Rattle.pgp_core.specs.Wants.{LacksReply};
+ghost use Rattle.std.specs.Prelude.{◌≡◌, [], false};
 
-use pgp_core::{Answerer, NoReply, Want, asked_reply, put_reply};
+use pgp_core::{Answerer, NoReply, Want, put_view};
 use pgp_engine::{
-    Answer, AskFault, Client, Engine, LocateFault, Naming, Place, SubmitAnswer, SubmitFault,
+    Client, Engine, LocateFault, Naming, Place, ReadFault, SubmitAnswer, SubmitFault,
 };
 use pgp_feed::Receipt;
-use pgp_ids::{Entry, LocateRefusal, ObjectName, PgId, PoolId, View};
+use pgp_ids::{Entry, LocateRefusal, ObjectName, PgId, PoolId};
 use pgp_text::{EntryOp, LineRefusal, Reply, ReplyWriter};
 use std::alloc::Global;
 use std::marker::Model;
@@ -51,36 +47,6 @@ impl<'a, J: Naming, T: Wait> EngineAnswerer<'a, J, T> {
             client,
             at,
         }
-    }
-
-    /// All that a front which the engine answers by says of a group, where its map has it. `Gone`: no copy of the log was lent
-    /// to the group's shard.
-    fn ask(&mut self, pg: PgId) -> Result<Option<View>, NoReply>
-        ensures view { IfOk result (λ view. view ≡ scratch self.new pg) }
-        ensures later { MayAnswerBy false self.old self.new }
-        ensures lacks { IfErr result (LacksReply false (Ask pg)) }
-    {
-        match self.engine.ask(self.rt, pg, &self.at) {
-            Ok(Answer { view, at }) => {
-                self.at = at;
-                Ok(Some(view))
-            }
-            Err(AskFault::UnknownGroup { at }) => {
-                self.at = at;
-                Ok(None)
-            }
-            Err(AskFault::Memory) => Err(NoReply::Memory(Want::Line)),
-            Err(AskFault::NoReader) => Err(NoReply::Gone),
-        }
-    }
-
-    /// The reply to a question about a group.
-    fn reply_to_ask(&mut self, pg: PgId) -> Result<Reply, NoReply>
-        ensures reply { IfOk result (λ reply. Replies false self.old self.new (Ask pg) reply) }
-        ensures later { MayAnswerBy false self.old self.new }
-        ensures lacks { IfErr result (LacksReply false (Ask pg)) }
-    {
-        Ok(asked_reply(pg, self.ask(pg)?))
     }
 }
 
@@ -131,7 +97,8 @@ impl<'a, J: Naming, T: Wait> Answerer for EngineAnswerer<'a, J, T> {
         }
     }
 
-    /// It is written from a copy, as nothing under a shard's lock is lent.
+    /// It is written from where the group's shard keeps the view, while the shard's lock is held. `Gone`: no copy of the log was
+    /// lent to the shard.
     fn put_asked(
         &mut self,
         alloc: Global,
@@ -139,8 +106,22 @@ impl<'a, J: Naming, T: Wait> Answerer for EngineAnswerer<'a, J, T> {
         pg: PgId,
         text: &mut Vec<u8>,
     ) -> Result<(), NoReply> {
-        let reply = self.reply_to_ask(pg)?;
-        put_reply(alloc, writer, &reply, text)?;
+        let turn = match self.engine.show(self.rt, pg, &self.at) {
+            Ok(turn) => turn,
+            Err(ReadFault::Memory) => return Err(NoReply::Memory(Want::Line)),
+            Err(ReadFault::NoReader) => return Err(NoReply::Gone),
+        };
+        self.at = turn.receipt();
+        let count = self.at.len();
+        put_view(
+            alloc,
+            writer,
+            pg,
+            turn.view_of(&pg),
+            count,
+            turn.epoch(),
+            text,
+        )?;
         Ok(())
     }
 }
