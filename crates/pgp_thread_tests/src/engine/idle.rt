@@ -23,10 +23,10 @@ const QUIET: usize = 8;
 /// How many groups a turn works out.
 const A_TURN: usize = 16;
 
-/// How many turns one worker takes with both shards until nothing is left to do. In each round both of them read: the map in one
-/// round, nothing in those before the lull. Then each round has one turn more, which works out groups: one turn finds none in the
-/// first shard, and the second shard's groups take the others.
-const NEEDED: usize = (1 + QUIET) * SHARDS + (1 + GROUPS / A_TURN) * (SHARDS + 1);
+/// How many turns one worker takes with both shards until nothing is left to do, and it sleeps. In each round both of them read: the
+/// map in one round, nothing in the others. Each round of the lull has one turn more, which works out groups: one turn finds none in
+/// the first shard, and the second shard's groups take the others. Then no group of either is left, and there is one round more.
+const NEEDED: usize = (1 + QUIET) * SHARDS + (1 + GROUPS / A_TURN) * (SHARDS + 1) + SHARDS;
 
 /// How many groups each shard has.
 const GROUPS: usize = 128;
@@ -62,7 +62,8 @@ impl CountingGate {
 }
 
 /// One worker serves both shards, of which the first has worked out all of its groups before. Once it has taken the turns that
-/// are needed, though nothing is submitted after the map, the log is closed.
+/// are needed, though nothing is submitted after the map, the log is closed. It has slept until then: no turn is left but those in
+/// which both read the Close.
 pub fn work_out<J: Naming + Send + Sync, R: Host>(rt: &R, desk: &Desk<J>) {
     desk.put(rt, MANY_GROUPS);
     for _ in 0..2 {
@@ -80,6 +81,7 @@ pub fn work_out<J: Naming + Send + Sync, R: Host>(rt: &R, desk: &Desk<J>) {
         },
     );
     is_count(rt, end.expect(rt, "a shard"), closed);
+    is_count(rt, gate.over.load(Ordering::SeqCst), NEEDED + SHARDS);
 }
 
 /// The log is closed, and one shard has read it. The worker of both ends once the other has read it too.
