@@ -2,7 +2,6 @@ pub mod ListLemmas
 pub mod GapLemmas
 pub mod LackingLemmas
 pub mod ReportedLemmas
-pub mod BlockingLemmas
 pub mod ReasonsLemmas
 pub mod GapLawLemmas
 pub mod SetLemmas

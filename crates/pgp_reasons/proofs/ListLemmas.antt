@@ -1,9 +1,8 @@
 -- Lists that are read up to one more element.
-use Rattle.std.proofs.Common.{◌≡◌, ℕ, ◌+◌, ◌<◌, List, [], ◌∷◌, ◌++◌, Option, Some, None, Bool, true, false, get_or, length, map, take, ap, ◌∙◌}
-use Rattle.std.specs.List.{filter, filter_map, flat_map}
+use Rattle.std.proofs.Common.{◌≡◌, ℕ, ◌+◌, ◌<◌, List, [], ◌∷◌, ◌++◌, Option, Some, None, get_or, length, map, take, ap, ◌∙◌}
+use Rattle.std.specs.List.{filter_map}
 use Rattle.std.proofs.lemmas.List.{map_push}
-use Rattle.pgp_lists.proofs.Lists.{flat_map-push}
-use Rattle.pgp_group.proofs.Lists.{kept_new, left_new, nothing_new, one_new, take-next}
+use Rattle.pgp_group.proofs.Lists.{nothing_new, one_new, take-next}
 
 pub map-next : {X Y : Type 0} (f : X → Y) (xs : List X) (i : ℕ) (x : X) → i < length xs → x ≡ get_or xs i x → map f (take (i + 1) xs) ≡ map f (take i xs) ++ f x ∷ []
 map-next f xs i x within item = ap (map f) (take-next xs i x within item) ∙ map_push f (take i xs) x
@@ -15,15 +14,3 @@ found-next found f xs i x z within item is = ap (filter_map found) (map-next f x
 pub missed-next : {X Y Z : Type 0} (found : Y → Option Z) (f : X → Y) (xs : List X) (i : ℕ) (x : X) → i < length xs → x ≡ get_or xs i x → found (f x) ≡ None
     → filter_map found (map f (take (i + 1) xs)) ≡ filter_map found (map f (take i xs))
 missed-next found f xs i x within item none = ap (filter_map found) (map-next f xs i x within item) ∙ nothing_new found (map f (take i xs)) (f x) none
-
-pub read-next : {X Y Z : Type 0} (read : Y → List Z) (f : X → Y) (xs : List X) (i : ℕ) (x : X) → i < length xs → x ≡ get_or xs i x
-    → flat_map read (map f (take (i + 1) xs)) ≡ flat_map read (map f (take i xs)) ++ read (f x)
-read-next read f xs i x within item = ap (flat_map read) (map-next f xs i x within item) ∙ flat_map-push read (map f (take i xs)) (f x)
-
-pub passes-next : {X Y : Type 0} (test : Y → Bool) (f : X → Y) (xs : List X) (i : ℕ) (x : X) → i < length xs → x ≡ get_or xs i x → test (f x) ≡ true
-    → filter test (map f (take (i + 1) xs)) ≡ filter test (map f (take i xs)) ++ f x ∷ []
-passes-next test f xs i x within item passes = ap (filter test) (map-next f xs i x within item) ∙ kept_new test (map f (take i xs)) (f x) passes
-
-pub fails-next : {X Y : Type 0} (test : Y → Bool) (f : X → Y) (xs : List X) (i : ℕ) (x : X) → i < length xs → x ≡ get_or xs i x → test (f x) ≡ false
-    → filter test (map f (take (i + 1) xs)) ≡ filter test (map f (take i xs))
-fails-next test f xs i x within item fails = ap (filter test) (map-next f xs i x within item) ∙ left_new test (map f (take i xs)) (f x) fails

@@ -1,7 +1,6 @@
 -- What is reckoned from a view and the log is what the group's log says.
 use Rattle.std.proofs.Common.{◌≡◌, ℕ, List, [], Option, Some, None, Bool, true, false, not, length, ◌==◌, option_map, option_and_then, refl, ap, sym, ◌∙◌, subst, inl, inr}
 use Rattle.std.specs.List.{Contains}
-use Rattle.std.specs.Option.{option_map_or}
 use Rattle.std.proofs.lemmas.Bool.{cases_Bool, true≢false}
 use Rattle.std.proofs.lemmas.Option.{same_Some}
 use Rattle.pgp_ids.specs.declared.entry.Entry.{Entry}
@@ -29,18 +28,17 @@ use Rattle.pgp_info.specs.Best.{candidates, is_unbeaten}
 use Rattle.pgp_group.specs.Entries.{incs_of}
 use Rattle.pgp_group.specs.GroupHistory.{history_of}
 use Rattle.pgp_group.specs.GroupLog.{GroupLog, group_in, group_with, incs, infos}
-use Rattle.pgp_group.specs.Heard.{counted_infos, heard, les, reported}
+use Rattle.pgp_group.specs.Heard.{counted_infos, heard, les}
 use Rattle.pgp_group.specs.Peering.{best, info_of, leader, past, prior}
 use Rattle.pgp_group.specs.Prefers.{prefers}
 use Rattle.pgp_group.specs.Present.{IsPresent}
 use Rattle.pgp_group.specs.View.{view_of}
 use Rattle.pgp_group.proofs.HeardLemmas.{HasDistinctMembers-last_of}
 use Rattle.pgp_group.proofs.PeerLemmas.{info_of-is}
-use Rattle.pgp_reasons.specs.Gaps.{gaps_in}
 use Rattle.pgp_reasons.specs.Smallest.{AreWays}
 use Rattle.pgp_reasons.specs.Ways.{is_relieved}
 use Rattle.pgp_reasons.specs.declared.ways.Ways.{Ways}
-use Rattle.pgp_reasons.specs.Reasons.{gaps, no_ways, AreWaysOf, IsViewed, IsAskedOf}
+use Rattle.pgp_reasons.specs.Reasons.{no_ways, AreWaysOf, IsViewed, IsAskedOf}
 use Rattle.pgp_reasons.specs.Reported.{infos_in}
 
 -- ---- the group of a view
@@ -104,11 +102,6 @@ pub best-found : (g : GroupLog) (list : List Info) (member : Option Member) (fou
     → found ≡ option_and_then (info_of list) member → found ≡ best g
 best-found g list member found of_best of_heard is =
     is ∙ (λ i. option_and_then (info_of (of_heard i)) (of_best i)) ∙ best-of g (best g) refl
-
-pub gaps-found : (g : GroupLog) (list : List Info) (member : Option Member) (found : Option Info) → member ≡ option_map (λ info. info.member) (best g) → list ≡ heard g
-    → found ≡ option_and_then (info_of list) member → option_map_or (λ info. gaps_in info (reported g info.member)) found [] ≡ gaps g
-gaps-found g list member found of_best of_heard is =
-    ap (λ (one : Option Info). option_map_or (λ (info : Info). gaps_in info (reported g info.member)) one []) (best-found g list member found of_best of_heard is)
 
 -- ---- what brings the group back
 

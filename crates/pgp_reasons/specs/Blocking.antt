@@ -1,7 +1,8 @@
 -- The past intervals for which a group has to wait, with what is told of each (Ceph's developer documentation on peering: the
 -- prior set). `status` says what has become of a device of an interval, given the first epoch of the interval; `lost` gives the
 -- epoch that was told when a device was last given up for lost.
-use Rattle.std.specs.Prelude.{ℕ, List, [], ◌∷◌, Option, Some, None, option_map, Bool, is_some, ◌&&◌, nat_le, max, fold, map, filter}
+use Rattle.std.specs.Prelude.{ℕ, List, Option, option_map, Bool, is_some, ◌&&◌, nat_le, max, map, filter}
+use Rattle.std.specs.List.{reduce}
 use Rattle.pgp_ids.specs.declared.past.Past.{Past}
 use Rattle.pgp_code.specs.AnyCode.{enough_of, is_by_place}
 use Rattle.pgp_code.specs.declared.any.AnyCode.{AnyCode}
@@ -15,8 +16,7 @@ use Rattle.pgp_reasons.specs.declared.fates.IntervalNow.{IntervalNow}
 
 -- the greatest of these epochs, if there is one
 abbrev pub greatest : List ℕ → Option ℕ
-greatest [] = None
-greatest (epoch ∷ epochs) = Some (fold max epoch epochs)
+greatest epochs = reduce max epochs
 
 -- the epoch lies within the interval
 abbrev pub is_in_interval : Past → ℕ → Bool

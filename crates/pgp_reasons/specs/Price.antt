@@ -1,7 +1,6 @@
 -- What it costs to end the wait of a group in some way: what is given up, by the members that still have what they held (this
 -- project's own words). `before` and `after` say what has become of a device of an interval, before and after the way.
 use Rattle.std.specs.Prelude.{ℕ, List, Bool, true, false, not, ◌&&◌, ◌||◌, nat_lt, map, filter, flat_map}
-use Rattle.std.specs.List.{list_any}
 use Rattle.pgp_code.specs.AnyCode.{enough_of, is_by_place}
 use Rattle.pgp_code.specs.declared.any.AnyCode.{AnyCode}
 use Rattle.pgp_ids.specs.declared.past.Past.{Past}
@@ -44,12 +43,3 @@ price_by code before after lost les past =
 abbrev pub price : (starts losses : List ℕ) → GroupLog → Price
 price starts losses g =
     price_by g.history.code (status (incs g)) (status_after starts losses (status (incs g))) (lost_at (incs g)) (les g) (past g)
-
--- the way gives up what was written in the interval: it concerns it, and members that are up after it can't read that
-abbrev pub is_given_up : AnyCode → (before after : ℕ → ℕ → Status) → ℕ → Past → Bool
-is_given_up code before after les interval = concerns code before after les interval && not (are_held false code after interval)
-
--- it does so of some interval
-abbrev pub gives_up : (starts losses : List ℕ) → GroupLog → Bool
-gives_up starts losses g =
-    list_any (is_given_up g.history.code (status (incs g)) (status_after starts losses (status (incs g))) (les g)) (past g)

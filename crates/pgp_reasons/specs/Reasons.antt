@@ -26,7 +26,6 @@ use Rattle.pgp_reasons.specs.declared.fates.IntervalNow.{IntervalNow}
 use Rattle.pgp_reasons.specs.declared.gap.Gap.{Gap}
 use Rattle.pgp_reasons.specs.declared.reasons.Reasons.{Reasons}
 use Rattle.pgp_reasons.specs.declared.short.Short.{Short}
-use Rattle.pgp_reasons.specs.declared.waits.Waits.{Waits}
 use Rattle.pgp_reasons.specs.declared.ways.Ways.{Ways}
 use Rattle.pgp_reasons.specs.declared.ways.Ways.TheVariants.{Listed}
 
@@ -59,12 +58,6 @@ no_ways = Listed (record { sets = []; more = false })
 pub record AreWaysOf (g : GroupLog) (ways : Ways) : Type 0 where
   pub down : (prior g).down ≡ true → AreWays (brings_back g) (prior g).blocked_by ways
   pub up : (prior g).down ≡ false → ways ≡ no_ways
-
--- this is what the group waits for: the intervals that block it, what ends that, and the last interval in which it was clean
-pub record AreWaits (g : GroupLog) (waits : Waits) : Type 0 where
-  pub blocking_is : waits.blocking ≡ blocking g
-  pub ways_are : AreWaysOf g waits.ways
-  pub clean_is : waits.clean ≡ clean g
 
 -- these are the reasons of the group: whom it has heard, what it waits for, the copies that may be followed, what its acting set
 -- lacks, and the writes that the best copy's log lacks

@@ -1,6 +1,6 @@
 //! The past intervals for which a group has to wait, and what is known of each.
 
-ghost use Rattle.std.specs.Prelude.{◌≡◌, max, map as mapped, unwrap_or, IfOk};
+ghost use Rattle.std.specs.Prelude.{◌≡◌, map as mapped, IfOk};
 ghost use Rattle.std.specs.Option.{option_copied};
 ghost use Rattle.pgp_lists.specs.Last.{last_where};
 ghost use Rattle.pgp_map.specs.Held.{held_lost_at};
@@ -119,14 +119,11 @@ pub(crate) fn matters(les: Epoch, interval: &Past) -> bool
 fn last_clean(infos: &[Info], interval: &Past) -> Option<Epoch>
     ensures { result ≡ last_within interval.now (mapped (λ info. info.last_epoch_clean) infos.now) }
 {
-    let mut last = None;
-    for info in infos {
-        let clean = info.last_epoch_clean;
-        if is_in(interval, clean) {
-            last = Some(later_of(last, clean));
-        }
-    }
-    last
+    infos
+        .iter()
+        .map(|info| info.last_epoch_clean)
+        .filter(|epoch| is_in(interval, *epoch))
+        .max()
 }
 
 /// Whether the epoch lies within the interval.
@@ -134,14 +131,4 @@ fn is_in(interval: &Past, epoch: Epoch) -> bool
     ensures { result ≡ is_in_interval interval.now epoch }
 {
     interval.first <= epoch && epoch <= interval.last
-}
-
-/// The later one of two epochs, of which the first may be missing.
-fn later_of(a: Option<Epoch>, b: Epoch) -> Epoch
-    ensures { result ≡ max (unwrap_or a 0) b }
-{
-    match a {
-        Some(a) => if a < b { b } else { a },
-        None => b,
-    }
 }

@@ -1,9 +1,7 @@
 //! Which copies of a group may be followed.
 
-ghost use Rattle.std.specs.Prelude.{◌≡◌, IfOk, OnOk, map as mapped, filter as filtered};
+ghost use Rattle.std.specs.Prelude.{◌≡◌, IfOk};
 ghost use Rattle.std.specs.Option.{option_copied};
-ghost use Rattle.pgp_ids.specs.Member.{is_before};
-ghost use Rattle.pgp_lists.specs.Ordered.{IsAscending, with_items};
 ghost use Rattle.pgp_reasons.specs.Copies.{copies_of, good_members, is_as_good, numbered_slots};
 
 use super::lacking::lacking;
@@ -47,27 +45,15 @@ fn good_members(
     ensures { IfOk result (λ members. members.items ≡ good_members (option_copied best.entry) infos.now) }
 {
     let mut members = Vec::new(alloc);
-    match best {
-        Some(best) => {
-            add_good(&mut members, best, infos)?;
-            Ok(members)
-        }
-        None => Ok(members),
-    }
-}
-
-/// Adds the members of those of the infos whose copies are complete and served as late as the best one.
-fn add_good(members: &mut Vec<Member>, best: &Info, infos: &[Info]) -> Result<(), AllocError>
-    requires { IsAscending is_before members.old.items }
-    ensures { OnOk result (members.new.items ≡ with_items is_before
-        (mapped (λ info. info.member) (filtered (is_as_good best.now) infos.now)) members.old.items) }
-{
+    let Some(good) = best else {
+        return Ok(members);
+    };
     for info in infos {
-        if is_as_good(best, info) {
-            insert_in_order(members, info.member)?;
+        if is_as_good(good, info) {
+            insert_in_order(&mut members, info.member)?;
         }
     }
-    Ok(())
+    Ok(members)
 }
 
 /// Whether the copy is complete and served as late as the best one.

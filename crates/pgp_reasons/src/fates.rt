@@ -123,12 +123,11 @@ fn is_status(wanted: Status, status: Status) -> bool
 fn once_lost(alloc: Global, map: &OsdMap, osds: &[OsdId]) -> Result<Seq<OsdId>, AllocError>
     ensures { IfOk result (λ list. list ≡ once_lost (held_lost_at map.now) osds.now) }
 {
-    let mut list = Vec::new(alloc);
-    for osd in osds {
-        if Epoch::new(0) < map.lost_at(*osd) {
-            list.push(*osd)?;
-        }
-    }
+    let list: Vec<OsdId> = osds
+        .iter()
+        .copied()
+        .filter(|osd| Epoch::new(0) < map.lost_at(*osd))
+        .collect(alloc)?;
     Ok(Seq::from_vec(list))
 }
 

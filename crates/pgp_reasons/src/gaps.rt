@@ -3,12 +3,15 @@
 ghost use Rattle.std.specs.Prelude.{◌≡◌, ◌+◌, ◌++◌, nat_eq, nat_lt, map as mapped, IfOk, OnOk};
 ghost use Rattle.std.specs.Arc.{arc_value};
 ghost use Rattle.std.specs.List.{list_any};
+ghost use Rattle.std.specs.Option.{option_copied};
 ghost use Rattle.pgp_lists.specs.Ordered.{IsAscending, ascending, with_items};
 ghost use Rattle.pgp_missing.specs.Log.{number_of};
 ghost use Rattle.pgp_group.specs.GroupLog.{GroupLog};
 ghost use Rattle.pgp_group.specs.Heard.{reported};
 ghost use Rattle.pgp_group.specs.Present.{IsPresent};
-ghost use Rattle.pgp_reasons.specs.Gaps.{runs_of, numbers_above, runs_lacked, gaps_in};
+ghost use Rattle.pgp_group.specs.Peering.{best as best_copy};
+ghost use Rattle.pgp_reasons.specs.Gaps.{runs_of, numbers_above, runs_lacked};
+ghost use Rattle.pgp_reasons.specs.Reasons.{gaps};
 
 use super::gap::Gap;
 use super::heard::entries_in;
@@ -18,18 +21,21 @@ use pgp_map::OsdMap;
 use std::alloc::{AllocError, Global};
 use std::sync::Arc;
 
-/// The numbers of writes that the log of the group's member with this info lacks.
+/// The numbers of writes that the log of the group's best copy lacks, which has this info; none if there is no best copy.
 pub(crate) fn gaps(
     alloc: Global,
     map: &OsdMap,
     entries: &[Arc<Entry>],
     pg: &PgId,
     first: Epoch,
-    info: &Info,
+    best: Option<&Info>,
 ) -> Result<Seq<Gap>, AllocError>
     ensures { IfOk result (λ list. (g : GroupLog) → g.log ≡ mapped arc_value entries.now → g.pg ≡ pg.now → IsPresent g map.now first
-        → list ≡ gaps_in info.now (reported g info.now.member)) }
+        → option_copied best.entry ≡ best_copy g → list ≡ gaps g) }
 {
+    let Some(info) = best else {
+        return Ok(Seq::new(alloc));
+    };
     let numbers = reported_numbers(alloc, map, entries, pg, first, &info.member)?;
     runs_beside(
         alloc,

@@ -36,7 +36,7 @@ fn info_in(entry: &Entry, pg: &PgId) -> Option<Info>
     ensures { result ≡ info_in pg.now entry.now }
 {
     match entry {
-        Entry::Info(info) => { if info.pg == *pg { Some(*info) } else { None } }
+        Entry::Info(info) if info.pg == *pg => Some(*info),
         _ => None,
     }
 }

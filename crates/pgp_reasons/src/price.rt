@@ -1,12 +1,11 @@
 //! What it costs to end the wait of a group.
 
 ghost use Rattle.std.specs.Prelude.{◌≡◌, List, IfOk};
-ghost use Rattle.std.specs.List.{list_any};
 ghost use Rattle.pgp_ids.specs.declared.entry.Entry.{Entry};
 ghost use Rattle.pgp_map.specs.Held.{held_lost_at};
 ghost use Rattle.pgp_sets.specs.Status.{held_status};
 ghost use Rattle.pgp_group.specs.GroupLog.{GroupLog};
-ghost use Rattle.pgp_reasons.specs.Price.{concerns, gives_up, is_given_up, price, price_by, slots_left};
+ghost use Rattle.pgp_reasons.specs.Price.{concerns, price, price_by, slots_left};
 ghost use Rattle.pgp_reasons.specs.Reasons.{IsViewed};
 ghost use Rattle.pgp_reasons.specs.Ways.{status_after};
 
@@ -44,53 +43,15 @@ pub fn price_of(
     ensures { IfOk result (λ cost. (log : List Entry) (g : GroupLog) → IsViewed log map.now pg view.now g
         → cost ≡ price starts.now losses.now g) }
 {
-    match map.pool(pg.pool) {
-        Some(pool) => {
-            let code = AnyCode::of_pool(pool.kind);
-            let past = view.intervals.as_slice();
-            price_by(alloc, &code, map, view.les, past, starts, losses)
-        }
-        None => Ok(Price {
+    let Some(pool) = map.pool(pg.pool) else {
+        return Ok(Price {
             intervals: Seq::new(alloc),
             unreadable: false,
-        }),
-    }
-}
-
-/// Whether to boot these devices and to declare those lost gives up what was written in some past interval, for the group of this
-/// view, which is by a log whose last map is this one. It takes no memory.
-pub fn gives_up(map: &OsdMap, pg: PgId, view: &View, starts: &[OsdId], losses: &[OsdId]) -> bool
-    ensures { (log : List Entry) (g : GroupLog) → IsViewed log map.now pg view.now g → result ≡ gives_up starts.now losses.now g }
-{
-    match map.pool(pg.pool) {
-        Some(pool) => {
-            let code = AnyCode::of_pool(pool.kind);
-            let past = view.intervals.as_slice();
-            gives_up_by(&code, map, view.les, past, starts, losses)
-        }
-        None => false,
-    }
-}
-
-/// The same for a group of a pool with this code and with these past intervals, which last began to serve in the epoch `les`.
-fn gives_up_by(
-    code: &AnyCode,
-    map: &OsdMap,
-    les: Epoch,
-    past: &[Past],
-    starts: &[OsdId],
-    losses: &[OsdId],
-) -> bool
-    ensures { result ≡ list_any (is_given_up code.now (held_status map.now) (status_after starts.now losses.now (held_status map.now)) les) past.now }
-{
-    let after = ChangedStatuses {
-        statuses: map,
-        these: &[],
-        those: starts,
-        losses,
+        });
     };
-    past.iter().any(|interval| concerns(code, map, &after, les, interval)
-        && !are_held(false, code, &after, interval))
+    let code = AnyCode::of_pool(pool.kind);
+    let past = view.intervals.as_slice();
+    price_by(alloc, &code, map, view.les, past, starts, losses)
 }
 
 /// What the way costs a group of a pool with this code and with these past intervals, which last began to serve in the epoch `les`.

@@ -1,23 +1,20 @@
-ghost use Rattle.std.specs.Prelude.{◌≡◌, map as mapped, option_and_then, option_map, IfOk};
+ghost use Rattle.std.specs.Prelude.{◌≡◌, map as mapped, option_and_then, IfOk};
 ghost use Rattle.std.specs.Arc.{arc_value};
 ghost use Rattle.std.specs.Option.{option_copied};
 ghost use Rattle.pgp_group.specs.GroupLog.{GroupLog};
-ghost use Rattle.pgp_group.specs.Heard.{heard as heard_by};
-ghost use Rattle.pgp_group.specs.Peering.{best as best_copy, info_of};
-ghost use Rattle.pgp_group.specs.Present.{IsPresent};
-ghost use Rattle.pgp_reasons.specs.Reasons.{copies as copies_by, gaps, short as short_by, AreReasons, AreWaits, IsViewed, IsAskedOf};
+ghost use Rattle.pgp_group.specs.Peering.{info_of};
+ghost use Rattle.pgp_reasons.specs.Reasons.{AreReasons, IsViewed, IsAskedOf};
 
-use super::blocking::Blocking;
+use super::blocking::{Blocking, clean_of, intervals_that_block};
 use super::copies::{Copies, copies_of};
 use super::fates::IntervalNow;
 use super::gap::Gap;
 use super::gaps::gaps;
 use super::heard::{heard, infos_in};
 use super::short::{Short, short_of};
-use super::waits::{Waits, no_ways, waits_of};
-use super::ways::Ways;
+use super::ways::{Ways, no_ways, ways_of};
 use pgp_code::AnyCode;
-use pgp_ids::{Entry, Epoch, Info, Member, PgId, Seq, View};
+use pgp_ids::{Entry, Info, Member, PgId, Seq, View};
 use pgp_map::OsdMap;
 use std::alloc::{AllocError, Global};
 use std::sync::Arc;
@@ -57,13 +54,11 @@ pub fn reasons_of(
 ) -> Result<Reasons, AllocError>
     ensures { IfOk result (λ reasons. (g : GroupLog) → IsViewed (mapped arc_value entries.now) map.now pg view.now g → AreReasons g reasons) }
 {
-    match map.pool(pg.pool) {
-        Some(pool) => {
-            let code = AnyCode::of_pool(pool.kind);
-            reasons_by(alloc, &code, map, entries, &pg, view)
-        }
-        None => Ok(nothing(alloc)),
-    }
+    let Some(pool) = map.pool(pg.pool) else {
+        return Ok(nothing(alloc));
+    };
+    let code = AnyCode::of_pool(pool.kind);
+    reasons_by(alloc, &code, map, entries, &pg, view)
 }
 
 /// The same for a group of a pool with this code.
@@ -79,60 +74,24 @@ fn reasons_by(
 {
     let infos = infos_in(alloc, entries, pg)?;
     let infos = infos.as_slice();
+    let past = view.intervals.as_slice();
     let heard = heard(alloc, map, infos, view.first)?;
-    let gaps = best_gaps(
-        alloc,
-        map,
-        entries,
-        pg,
-        view.first,
-        view.best,
-        heard.as_slice(),
-    )?;
-    let copies = copies_of(
-        alloc,
-        code,
-        info_of_best(heard.as_slice(), view.best),
-        heard.as_slice(),
-    )?;
-    let waits = waits_of(alloc, code, map, infos, view)?;
+    let best = info_of_best(heard.as_slice(), view.best);
+    let gaps = gaps(alloc, map, entries, pg, view.first, best)?;
+    let copies = copies_of(alloc, code, best, heard.as_slice())?;
+    let blocking = intervals_that_block(alloc, code, map, infos, view.les, past)?;
+    let ways = ways_of(alloc, code, map, view)?;
+    let clean = clean_of(alloc, code, map, infos, view.les, past)?;
     let short = short_of(alloc, code, map, view)?;
-    Ok(joined(heard, waits, copies, short, gaps))
-}
-
-/// The reasons of these parts.
-fn joined(heard: Seq<Info>, waits: Waits, copies: Copies, short: Short, lacked: Seq<Gap>) -> Reasons
-    ensures { (g : GroupLog) → heard ≡ heard_by g → AreWaits g waits → copies ≡ copies_by g → short ≡ short_by g → lacked ≡ gaps g
-        → AreReasons g result }
-{
-    Reasons {
+    Ok(Reasons {
         heard,
-        blocking: waits.blocking,
-        ways: waits.ways,
-        clean: waits.clean,
+        blocking,
+        ways,
+        clean,
         copies,
         short,
-        gaps: lacked,
-    }
-}
-
-/// The numbers of writes that the log of the best copy lacks, which is this member's.
-fn best_gaps(
-    alloc: Global,
-    map: &OsdMap,
-    entries: &[Arc<Entry>],
-    pg: &PgId,
-    first: Epoch,
-    best: Option<Member>,
-    heard: &[Info],
-) -> Result<Seq<Gap>, AllocError>
-    ensures { IfOk result (λ list. (g : GroupLog) → g.log ≡ mapped arc_value entries.now → g.pg ≡ pg.now → IsPresent g map.now first
-        → best ≡ option_map (λ info. info.member) (best_copy g) → heard.now ≡ heard_by g → list ≡ gaps g) }
-{
-    match info_of_best(heard, best) {
-        Some(info) => gaps(alloc, map, entries, pg, first, info),
-        None => Ok(Seq::new(alloc)),
-    }
+        gaps,
+    })
 }
 
 /// The member's info, if there is a member and it has one.
@@ -140,21 +99,16 @@ fn info_of_best(infos: &[Info], member: Option<Member>) -> Option<&Info>
     ensures { option_copied result ≡ option_and_then (info_of infos.now) member }
 {
     match member {
-        Some(member) => info_of(infos, &member),
+        Some(member) => info_of(infos, member),
         None => None,
     }
 }
 
 /// The member's info, if it has one.
-fn info_of<'a>(infos: &'a [Info], member: &Member) -> Option<&'a Info>
-    ensures { option_copied result ≡ info_of infos.now member.now }
+fn info_of(infos: &[Info], member: Member) -> Option<&Info>
+    ensures { option_copied result ≡ info_of infos.now member }
 {
-    for info in infos {
-        if info.member == *member {
-            return Some(info);
-        }
-    }
-    None
+    infos.iter().find(|info| info.member == member)
 }
 
 /// No reasons.

@@ -1,17 +1,45 @@
-ghost use Rattle.std.specs.Prelude.{◌≡◌, [], IfOk};
+//! Whether a group is down no more once some devices booted, and others were declared lost.
+
+ghost use Rattle.std.specs.Prelude.{◌≡◌, List, [], ◌∷◌, not};
+ghost use Rattle.pgp_ids.specs.declared.entry.Entry.{Entry};
+ghost use Rattle.pgp_ids.specs.declared.entry.Entry.TheVariants as entry;
+ghost use Rattle.pgp_ids.specs.declared.incremental.Incremental.{Incremental};
 ghost use Rattle.pgp_prior.specs.Prior.{is_group_down};
-ghost use Rattle.pgp_reasons.specs.Smallest.{AreWays};
-ghost use Rattle.pgp_reasons.specs.Ways.{is_relieved};
+ghost use Rattle.pgp_group.specs.GroupLog.{GroupLog};
+ghost use Rattle.pgp_group.specs.Later.{IsAfter};
+ghost use Rattle.pgp_group.specs.Peering.{prior};
+ghost use Rattle.pgp_reasons.specs.GroupWays.{is_down_with, GoesWay};
+ghost use Rattle.pgp_reasons.specs.Reasons.{IsViewed};
 
 use super::changed_statuses::ChangedStatuses;
 use super::enough::Enough;
-use super::search::smallest_of;
-use super::ways::Ways;
-use pgp_code::Recoverable;
-use pgp_ids::{Epoch, OsdId, Past};
+use pgp_code::{AnyCode, Recoverable};
+use pgp_ids::{Epoch, OsdId, Past, PgId, View};
+use pgp_map::OsdMap;
 use pgp_prior::blocks;
 use pgp_sets::StatusOf;
-use std::alloc::{AllocError, Global};
+
+/// Whether the group of this view is not down once these devices booted and those were declared lost, where the view is by a log
+/// whose last map is this one. The same holds after the next map, if that boots only the ones, declares only the others lost at its
+/// own epoch, and takes none down and destroys none. It takes no memory.
+pub fn unblocks(map: &OsdMap, pg: PgId, view: &View, starts: &[OsdId], losses: &[OsdId]) -> bool
+    ensures as_defined { (log : List Entry) (g : GroupLog) → IsViewed log map.now pg view.now g
+        → result ≡ not (is_down_with starts.now losses.now g) }
+    ensures by_next_map { (log : List Entry) (g after : GroupLog) (inc : Incremental) → IsViewed log map.now pg view.now g
+        → IsAfter g (entry.Inc inc ∷ []) after → GoesWay starts.now losses.now inc → result ≡ not (prior after).down }
+{
+    let Some(pool) = map.pool(pg.pool) else {
+        return false;
+    };
+    let code = AnyCode::of_pool(pool.kind);
+    let after = ChangedStatuses {
+        statuses: map,
+        these: &[],
+        those: starts,
+        losses,
+    };
+    !is_group_down(&code, &after, view.les, view.intervals.as_slice())
+}
 
 /// Judges whether a group would no longer be down once some devices booted.
 #[derive(Drop)]
@@ -25,6 +53,7 @@ pub(crate) struct Relief<'a, R, S> {
 impl<R: Recoverable, S: StatusOf> Enough for Relief<'_, R, S> {
     ghost use Rattle.std.specs.Prelude.{[]};
     ghost use Rattle.pgp_reasons.specs.WayLaws.{starts-more};
+    ghost use Rattle.pgp_reasons.specs.Ways.{is_relieved};
 
     ghost enough = { λ r osds. is_relieved (R.enough r.code.now) (R.by_place r.code.now) (S.status_of r.statuses.now) r.les
         r.past.now osds [] };
@@ -55,51 +84,4 @@ fn is_group_down<R: Recoverable, S: StatusOf>(
 {
     past.iter()
         .any(|interval| blocks(code, statuses, les, interval))
-}
-
-/// Whether no past interval blocks a group any more once these devices booted, and those were declared lost. It takes no memory.
-pub fn is_relieved<R: Recoverable, S: StatusOf>(
-    code: &R,
-    statuses: &S,
-    les: Epoch,
-    past: &[Past],
-    starts: &[OsdId],
-    losses: &[OsdId],
-) -> bool
-    ensures { result ≡ is_relieved (R.enough code.now) (R.by_place code.now) (S.status_of statuses.now) les past.now starts.now
-        losses.now }
-{
-    let after = ChangedStatuses {
-        statuses,
-        these: &[],
-        those: starts,
-        losses,
-    };
-    !is_group_down(code, &after, les, past)
-}
-
-/// The smallest sets of these devices which, once they boot, leave a group that no past interval blocks.
-///
-/// It judges each set by the past intervals that are handed in. It says so where any so many of some devices are enough. Else it
-/// lists at most 16 sets, and stops after it has judged some thousands: `more` says so. Of nine devices or fewer it judges as many
-/// as there need be, so there `more` says that there are more than 16.
-pub fn smallest<R: Recoverable, S: StatusOf>(
-    alloc: Global,
-    code: &R,
-    statuses: &S,
-    les: Epoch,
-    past: &[Past],
-    among: &[OsdId],
-) -> Result<Ways, AllocError>
-    ensures { IfOk result (λ ways. AreWays
-        (λ osds. is_relieved (R.enough code.now) (R.by_place code.now) (S.status_of statuses.now) les past.now osds []) among.now
-        ways) }
-{
-    let relief = Relief {
-        code,
-        statuses,
-        les,
-        past,
-    };
-    smallest_of(alloc, &relief, among)
 }

@@ -5,8 +5,8 @@ use super::enough::Enough;
 use super::set_walk::SetWalk;
 use super::shape::any_of;
 use super::spread::spread;
-use super::ways::{Sets, Ways};
-use pgp_ids::{OsdId, Seq};
+use super::ways::{Sets, Ways, no_ways};
+use pgp_ids::OsdId;
 use std::alloc::{AllocError, Global};
 
 /// The smallest sets of these devices that are enough, the smaller first.
@@ -22,10 +22,7 @@ pub(crate) fn smallest_of<E: Enough>(
     ensures { IfOk result (λ ways. AreWays (E.enough judge.now) among.now ways) }
 {
     if !judge.is_enough(among, &[]) {
-        return Ok(Ways::Listed(Sets {
-            sets: Seq::new(alloc),
-            more: false,
-        }));
+        return Ok(no_ways(alloc));
     }
     match any_of(alloc, judge, among)? {
         Some(any) => Ok(Ways::Any(any)),

@@ -49,24 +49,18 @@ fn those_that<E: Enough>(
     ensures { IfOk result (λ osds. osds.items
         ≡ filter (λ osd. is_as_wanted wanted (takes_part (E.enough judge.now) set.now osd)) among.now) }
 {
-    let mut osds = Vec::new(alloc);
-    for osd in among {
-        if takes_part(judge, set, *osd) == wanted {
-            osds.push(*osd)?;
-        }
-    }
-    Ok(osds)
+    among
+        .iter()
+        .copied()
+        .filter(|osd| takes_part(judge, set, *osd) == wanted)
+        .collect(alloc)
 }
 
 /// Whether the device is one of the set, or is enough with those that follow the first of the set.
 fn takes_part<E: Enough>(judge: &E, set: &[OsdId], osd: OsdId) -> bool
     ensures { result ≡ takes_part (E.enough judge.now) set.now osd }
 {
-    set.contains(&osd)
-        || match set.split_first() {
-            Some((_, later)) => judge.is_enough(later, &[osd]),
-            None => judge.is_enough(&[], &[osd]),
-        }
+    set.contains(&osd) || judge.is_enough(set.get(1..).unwrap_or(&[]), &[osd])
 }
 
 /// Whether any so many of the first devices are enough, and no fewer with all of the others, where more than one way to choose

@@ -1,4 +1,17 @@
-use pgp_ids::{OsdId, Seq};
+//! The smallest sets of devices that bring a group back.
+
+ghost use Rattle.std.specs.Prelude.{◌≡◌, IfOk};
+ghost use Rattle.pgp_map.specs.MapOf.{IsMapOf};
+ghost use Rattle.pgp_group.specs.GroupLog.{GroupLog, incs};
+ghost use Rattle.pgp_group.specs.View.{view_of};
+ghost use Rattle.pgp_reasons.specs.Reasons.{AreWaysOf, no_ways};
+
+use super::relief::Relief;
+use super::search::smallest_of;
+use pgp_code::AnyCode;
+use pgp_ids::{OsdId, Seq, View};
+use pgp_map::OsdMap;
+use std::alloc::{AllocError, Global};
 
 /// The smallest sets of devices each of which would be enough.
 #[derive(Drop)]
@@ -26,4 +39,37 @@ pub struct Sets {
     /// Whether there may be others: there are more than 16, or there were more than nine devices to choose from. If fewer than 16
     /// are listed then, a device that all of them have is one that each way needs.
     pub more: bool,
+}
+
+/// The smallest sets of devices that leave the group of the view not down once they boot; none if it isn't down. Only devices that
+/// block it are tried: no other device that is down is a member of an interval that blocks.
+pub(crate) fn ways_of(
+    alloc: Global,
+    code: &AnyCode,
+    map: &OsdMap,
+    view: &View,
+) -> Result<Ways, AllocError>
+    ensures { IfOk result (λ ways. (g : GroupLog) → g.history.code ≡ code.now → IsMapOf (incs g) map.now → view.now ≡ view_of g
+        → AreWaysOf g ways) }
+{
+    if view.blocked_by.is_empty() {
+        return Ok(no_ways(alloc));
+    }
+    let relief = Relief {
+        code,
+        statuses: map,
+        les: view.les,
+        past: view.intervals.as_slice(),
+    };
+    smallest_of(alloc, &relief, view.blocked_by.as_slice())
+}
+
+/// No sets of devices.
+pub(crate) fn no_ways(alloc: Global) -> Ways
+    ensures { result ≡ no_ways }
+{
+    Ways::Listed(Sets {
+        sets: Seq::new(alloc),
+        more: false,
+    })
 }

@@ -6,8 +6,8 @@ use Rattle.pgp_reasons.specs.Ways.{status_after}
 use Rattle.pgp_reasons.proofs.ReasonsLemmas.{asked-is, viewed-asked, unviewed}
 use Rattle.pgp_reasons.proofs.price.price_of.Goals as goal
 
-pub returns-in-Some : goal.returns-in-Some
-returns-in-Some c =
+pub returns : goal.returns
+returns c =
     IfOk-weaker c.price_by.result _ _
     (λ cost is log g viewed.
     let asked = viewed-asked log c.args.map.now c.args.pg c.args.view.now g c.in-Some.pool (sym (c.in-Some.ensures.value (incs_of log) viewed.map_is)) viewed in
@@ -16,5 +16,5 @@ returns-in-Some c =
     g c.of_pool-code.result c.args.map.now c.args.view.now (asked.code_is ∙ sym c.of_pool-code.ensures) asked.map_is asked.view_is))
     c.price_by.ensures
 
-pub returns-in-None : goal.returns-in-None
-returns-in-None c = λ log g is. absurd (unviewed log c.args.map.now c.args.pg c.args.view.now g (sym (c.in-None.ensures.value (incs_of log) is.map_is)) is)
+pub returns-in_default : goal.returns-in_default
+returns-in_default c = λ log g is. absurd (unviewed log c.args.map.now c.args.pg c.args.view.now g (sym (c.in_default.ensures.value (incs_of log) is.map_is)) is)

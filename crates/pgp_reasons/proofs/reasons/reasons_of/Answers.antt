@@ -8,8 +8,8 @@ use Rattle.pgp_reasons.specs.Reasons.{IsAskedOf}
 use Rattle.pgp_reasons.proofs.ReasonsLemmas.{viewed-asked, unviewed}
 use Rattle.pgp_reasons.proofs.reasons.reasons_of.Goals as goal
 
-pub returns-in-Some : goal.returns-in-Some
-returns-in-Some c =
+pub returns : goal.returns
+returns c =
     IfOk-weaker c.reasons_by.result _ _
     (λ reasons each g is.
     let log : List Entry = map arc_value c.args.entries.now in
@@ -18,7 +18,7 @@ returns-in-Some c =
     (viewed-asked log c.args.map.now c.args.pg c.args.view.now g c.in-Some.pool found is)))
     c.reasons_by.ensures
 
-pub returns-in-None : goal.returns-in-None
-returns-in-None c = λ g is.
+pub returns-in_default : goal.returns-in_default
+returns-in_default c = λ g is.
     let log : List Entry = map arc_value c.args.entries.now in
-    absurd (unviewed log c.args.map.now c.args.pg c.args.view.now g (sym (c.in-None.ensures.value (incs_of log) is.map_is)) is)
+    absurd (unviewed log c.args.map.now c.args.pg c.args.view.now g (sym (c.in_default.ensures.value (incs_of log) is.map_is)) is)

@@ -1,4 +1,5 @@
-use Rattle.std.proofs.Common.{◌≡◌, [], ◌++◌, length, true, false, ap, sym, ◌∙◌, arith, append-nil}
+use Rattle.std.proofs.Common.{◌≡◌, [], ◌++◌, true, false, sym, subst, arith, append-nil}
+use Rattle.pgp_reasons.specs.Smallest.{AreWays}
 use Rattle.pgp_reasons.proofs.SetLemmas.{none-enough}
 use Rattle.pgp_reasons.proofs.WalkLemmas.{said-is, listed-all}
 use Rattle.pgp_reasons.proofs.search.smallest_of.Goals as goal
@@ -7,9 +8,8 @@ pub returns-then-not-is_enough : goal.returns-then-not-is_enough
 returns-then-not-is_enough g c =
     let enough = g.E.Enough.enough c.args.judge.now in
     let short : enough c.args.among.now ≡ false = said-is enough (c.args.among.now ++ []) c.args.among.now c.is_enough.result false (append-nil c.args.among.now) c.is_enough.ensures c.if-not-is_enough.true in
-    listed-all enough c.args.among.now c.new.result
-    (c.new.ensures ∙ sym (none-enough enough (g.met.E.Enough.monotone c.args.judge.now) c.args.among.now short))
-    (omega (arith, ap length c.new.ensures))
+    subst (AreWays enough c.args.among.now) (sym c.no_ways.ensures)
+    (listed-all enough c.args.among.now [] (sym (none-enough enough (g.met.E.Enough.monotone c.args.judge.now) c.args.among.now short)) (omega arith))
 
 pub any_of-requires : goal.any_of-requires
 any_of-requires g c =
