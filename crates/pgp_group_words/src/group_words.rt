@@ -69,7 +69,7 @@ impl Page {
     fn put_heading(&mut self, explanation: &Explanation) -> Result<(), AllocError>
         ensures { OnOk result (Puts self.old self.new (heading self.old.naming explanation.now)) }
     {
-        let epoch = self.naming.epoch(explanation.view.epoch);
+        let epoch = self.naming.offset.cluster_epoch(explanation.view.epoch);
         let verdict = explanation.view.verdict.name();
         let pool = explanation.pg.pool.number();
         let pg = explanation.pg.pg;
@@ -84,7 +84,7 @@ impl Page {
         let up = self.places(&explanation.view.up)?;
         self.put_acting(explanation)?;
         writeln!(self, "up     {up}")?;
-        self.put_served(self.naming.epoch(explanation.view.les))
+        self.put_served(self.naming.offset.cluster_epoch(explanation.view.les))
     }
 
     /// Who serves the group, and since when.
@@ -156,8 +156,8 @@ impl Page {
         ensures { OnOk result (Puts self.old self.new (sender_part self.old.naming info.now)) }
     {
         let member = self.name(&info.member)?;
-        let stamp = self.naming.epoch(info.stamp);
-        let epoch = self.naming.epoch(info.last_update.epoch);
+        let stamp = self.naming.offset.cluster_epoch(info.stamp);
+        let epoch = self.naming.offset.cluster_epoch(info.last_update.epoch);
         let complete = if info.complete {
             "complete"
         } else {
@@ -199,7 +199,7 @@ impl InWords for Info {
     #[tactic(auto, unfolding(crate::specs::Words::info_words))]
     fn put(&self, page: &mut Page) -> Result<(), AllocError> {
         page.put_sender(self)?;
-        page.put_has_served(page.naming.epoch(self.les))?;
-        page.put_knows_of(page.naming.epoch(self.history_les))
+        page.put_has_served(page.naming.offset.cluster_epoch(self.les))?;
+        page.put_knows_of(page.naming.offset.cluster_epoch(self.history_les))
     }
 }

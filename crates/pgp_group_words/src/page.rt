@@ -19,14 +19,6 @@ pub(crate) struct Naming {
     pub offset: EpochOffset,
 }
 
-impl Naming {
-    pub fn epoch(self, epoch: Epoch) -> u64
-        ensures { result ≡ cluster_epoch self.offset epoch }
-    {
-        self.offset.cluster_epoch(epoch)
-    }
-}
-
 /// Text that is put together, and how members and epochs are named in it.
 #[derive(Drop)]
 pub(crate) struct Page {
@@ -99,7 +91,7 @@ impl Page {
     pub fn epoch(&self, epoch: Epoch) -> u64
         ensures { result ≡ cluster_epoch self.now.naming.offset epoch }
     {
-        self.naming.epoch(epoch)
+        self.naming.offset.cluster_epoch(epoch)
     }
 
     /// What its text takes memory from.

@@ -1,9 +1,9 @@
 //! What a group waits for, in one sentence.
 
-ghost use Rattle.std.specs.Prelude.{◌≡◌, ◌<◌, IfOk, OnOk, string_bytes};
+ghost use Rattle.std.specs.Prelude.{◌≡◌, IfOk, OnOk, string_bytes};
 ghost use Rattle.std.specs.List.{list_any};
 ghost use Rattle.std.specs.Option.{option_copied};
-ghost use Rattle.pgp_group_words.specs.Sentence.{behind_part, fallen_part, few, few_members, few_shards, held_part, informed as informed_of, informed_beside_complete as informed_beside, log_of, naming_of, none_recent, not_recent, on_down, on_incomplete, on_log, on_no_primary, on_serving, on_short, on_up_thru, on_waiting, osds_part, sentence_of, starters_part, unread_part};
+ghost use Rattle.pgp_group_words.specs.Sentence.{behind_part, fallen_part, few, few_shards, held_part, informed as informed_of, informed_beside_complete as informed_beside, log_of, naming_of, none_recent, on_down, on_incomplete, on_log, on_no_primary, on_serving, on_short, on_up_thru, on_waiting, osds_part, sentence_of, starters_part, unread_part};
 ghost use Rattle.pgp_group_words.specs.Text.{Puts};
 
 use super::explanation::Explanation;
@@ -89,21 +89,14 @@ impl Page {
         self.put_starters(reasons)
     }
 
-    /// No copy that was heard of is complete and recent enough.
+    /// No copy that was heard of is complete and recent enough: complete ones are older than what some info knows of.
+    #[tactic(auto, unfolding(crate::specs::Sentence::not_recent))]
     fn put_none_recent(&mut self, heard: &[Info]) -> Result<(), AllocError>
         ensures { OnOk result (Puts self.old self.new (none_recent self.old.naming (informed_beside heard.now))) }
     {
-        match informed_beside_complete(heard) {
-            Some(info) => self.put_not_recent(info),
-            None => self.push_str("No complete copy was heard of."),
-        }
-    }
-
-    /// Complete copies are older than what this info knows of.
-    #[tactic(auto, unfolding(crate::specs::Sentence::not_recent))]
-    fn put_not_recent(&mut self, info: &Info) -> Result<(), AllocError>
-        ensures { OnOk result (Puts self.old self.new (not_recent self.old.naming info.now)) }
-    {
+        let Some(info) = informed_beside_complete(heard) else {
+            return self.push_str("No complete copy was heard of.");
+        };
         let member = self.name(&info.member)?;
         let epoch = self.epoch(info.history_les);
         write!(
@@ -164,25 +157,16 @@ impl Page {
         self.put_fallen(explanation.reasons.short.fallen.as_slice())
     }
 
-    /// What the acting set lacks.
+    /// What the acting set lacks: members, or else shards.
+    #[tactic(auto, unfolding(crate::specs::Sentence::few_members))]
     pub fn put_few(&mut self, explanation: &Explanation) -> Result<(), AllocError>
         ensures { OnOk result (Puts self.old self.new (few explanation.now)) }
     {
         let members = explanation.view.acting.osd_count();
         let least = usize::from(explanation.min_size);
         if members >= least {
-            self.put_few_shards(explanation.reasons.short.lacks)
-        } else {
-            self.put_few_members(members, least)
+            return self.put_few_shards(explanation.reasons.short.lacks);
         }
-    }
-
-    /// It has too few members.
-    #[tactic(auto, unfolding(crate::specs::Sentence::few_members))]
-    fn put_few_members(&mut self, members: usize, least: usize) -> Result<(), AllocError>
-        requires { members < least }
-        ensures { OnOk result (Puts self.old self.new (few_members members least)) }
-    {
         let more = least - members;
         let noun = plural(members, "member", "members");
         let devices = plural(more, "device", "devices");

@@ -89,16 +89,12 @@ fn follows(run: Span, next: Span) -> bool
 fn runs_of_writes(alloc: Global, gaps: &[Gap]) -> Result<Vec<Span>, AllocError>
     ensures { IfOk result (λ runs. runs.items ≡ map run_of_gap gaps.now) }
 {
-    gaps.iter().map(run_of_writes).collect(alloc)
-}
-
-fn run_of_writes(gap: &Gap) -> Span
-    ensures { result ≡ run_of_gap gap.now }
-{
-    Span {
-        first: u64::from(gap.first),
-        last: u64::from(gap.last),
-    }
+    gaps.iter()
+        .map(|gap| Span {
+            first: u64::from(gap.first),
+            last: u64::from(gap.last),
+        })
+        .collect(alloc)
 }
 
 impl Page {
