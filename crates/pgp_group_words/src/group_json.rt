@@ -1,6 +1,6 @@
 //! A group as JSON.
 
-ghost use Rattle.std.specs.Prelude.{◌≡◌, ◌++◌, ◌∷◌, [], IfOk, OnErr, OnOk, string_bytes};
+ghost use Rattle.std.specs.Prelude.{◌≡◌, ◌++◌, ◌∷◌, [], IfOk, OnOk, string_bytes};
 ghost use Rattle.json.specs.Print.{print};
 ghost use Rattle.pgp_text.specs.Written.{fields_tokens};
 ghost use Rattle.pgp_group_words.specs.Json.{advice_json, place_fields, resort_fields, verdict_fields};
@@ -14,24 +14,10 @@ use pgp_ids::Seq;
 use pgp_text::write_field;
 use std::alloc::{AllocError, Global};
 
-/// Puts what there is to say of a group behind what `text` has: one object in one line, which ends in a line feed, with the
-/// keys of each object in ascending byte order. Where there is no memory, `text` stays as it was.
-pub fn put_json(
-    alloc: Global,
-    advice: &Advice,
-    offset: EpochOffset,
-    text: &mut String,
-) -> Result<(), AllocError>
-    ensures ok { OnOk result (string_bytes text.new ≡ string_bytes text.old ++ advice_json advice.now offset) }
-    ensures err { OnErr result (string_bytes text.new ≡ string_bytes text.old) }
-{
-    let line = advice.json(alloc, offset)?;
-    text.push_str(line.as_str())
-}
-
 impl Advice {
-    /// The object in one line.
-    fn json(&self, alloc: Global, offset: EpochOffset) -> Result<String, AllocError>
+    /// What there is to say of a group: one object in one line, which ends in a line feed, with the keys of each object in
+    /// ascending byte order.
+    pub fn json(&self, alloc: Global, offset: EpochOffset) -> Result<String, AllocError>
         ensures { IfOk result (λ text. string_bytes text ≡ advice_json self.now offset) }
     {
         let mut out = Writer::new(Vec::new(alloc));

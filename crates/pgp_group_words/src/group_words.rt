@@ -1,6 +1,6 @@
 //! A group in words.
 
-ghost use Rattle.std.specs.Prelude.{◌≡◌, ◌++◌, IfOk, OnErr, OnOk, string_bytes};
+ghost use Rattle.std.specs.Prelude.{◌≡◌, IfOk, OnOk, string_bytes};
 ghost use Rattle.pgp_group_words.specs.Text.{Puts};
 ghost use Rattle.pgp_group_words.specs.Words.{acting_line, has_served, heading, hearing_lines, info_words, knows_of, lines_of, list_lines, place_lines, sender_part, served_line, verdict_lines, words_of};
 
@@ -12,25 +12,9 @@ use super::page::{InWords, Page};
 use pgp_ids::{Info, Seq};
 use std::alloc::{AllocError, Global};
 
-/// Puts what there is to say of a group behind what `text` has, in lines that each end in a line feed. Where there is
-/// no memory, `text` stays as it was.
-pub fn put_words(
-    alloc: Global,
-    advice: &Advice,
-    offset: EpochOffset,
-    text: &mut String,
-) -> Result<(), AllocError>
-    ensures ok { OnOk result (string_bytes text.new
-        ≡ string_bytes text.old ++ words_of advice.now offset) }
-    ensures err { OnErr result (string_bytes text.new ≡ string_bytes text.old) }
-{
-    let words = advice.words(alloc, offset)?;
-    text.push_str(words.as_str())
-}
-
 impl Advice {
-    /// What there is to say of a group in words.
-    fn words(&self, alloc: Global, offset: EpochOffset) -> Result<String, AllocError>
+    /// What there is to say of a group, in lines that each end in a line feed.
+    pub fn words(&self, alloc: Global, offset: EpochOffset) -> Result<String, AllocError>
         ensures { IfOk result (λ text. string_bytes text ≡ words_of self.now offset) }
     {
         let mut page = Page::new(alloc, self.explanation.naming(offset));

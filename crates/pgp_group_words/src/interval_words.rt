@@ -5,7 +5,7 @@ ghost use Rattle.pgp_reasons.specs.Smallest.{holds};
 ghost use Rattle.pgp_group_words.specs.IntervalWords.{down_line, fate_line, fate_lines, interval_lines, member_noun, members_on as members_on_osds, read_write_line, waits_line};
 ghost use Rattle.pgp_group_words.specs.Text.{Puts};
 
-use super::names::{Leader, are, plural};
+use super::names::{Leader, plural};
 use super::page::{InWords, Page};
 use pgp_ids::{Epoch, Member, OsdId, Osds, Seq};
 use pgp_prior::members_of;
@@ -65,7 +65,7 @@ impl Page {
         ensures { OnOk result (Puts self.old self.new (down_line self.old.naming down.now)) }
     {
         let names = self.list(down)?;
-        let are = are(down.len());
+        let are = plural(down.len(), "is", "are");
         writeln!(self, "  {names} {are} down")
     }
 

@@ -1,7 +1,7 @@
 //! The members that were heard and lack something of the best copy.
 
 ghost use Rattle.std.specs.Prelude.{◌≡◌, filter_map, IfOk, OnOk};
-ghost use Rattle.pgp_group_words.specs.Lags.{laggard_of as laggard_of_peer, lag_of as lag_of_state, laggard_name, lag_name};
+ghost use Rattle.pgp_group_words.specs.Lags.{laggard_of as laggard_of_peer, laggard_name, lag_name};
 ghost use Rattle.pgp_group_words.specs.Text.{Puts};
 
 use super::names::plural;
@@ -38,23 +38,14 @@ pub(crate) fn laggards(alloc: Global, peers: &[PeerMissing]) -> Result<Vec<Lagga
 fn laggard_of(peer: &PeerMissing) -> Option<Laggard>
     ensures { result ≡ laggard_of_peer peer.now }
 {
-    let lag = lag_of(&peer.state)?;
+    let lag = match &peer.state {
+        PeerState::Missing(objects) if objects.is_empty() => return None,
+        PeerState::Missing(objects) => Lag::Objects(objects.len()),
+        PeerState::Backfill => Lag::Backfill,
+        PeerState::Diverged => Lag::Diverged,
+    };
     let member = peer.member;
     Some(Laggard { member, lag })
-}
-
-/// What a member of this state lacks, where it lacks something.
-fn lag_of(state: &PeerState) -> Option<Lag>
-    ensures { result ≡ lag_of_state state.now }
-{
-    match state {
-        PeerState::Missing(objects) => match objects.len() {
-            0 => None,
-            count => Some(Lag::Objects(count)),
-        },
-        PeerState::Backfill => Some(Lag::Backfill),
-        PeerState::Diverged => Some(Lag::Diverged),
-    }
 }
 
 /// A member, and what it lacks.

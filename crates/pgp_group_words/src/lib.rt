@@ -1,9 +1,9 @@
 //! What is told of one group, in words for an operator and as JSON: why it doesn't serve, and what it waits for.
 //!
 //! This layer decides the text of an [`Advice`], and nothing else: that has an [`Explanation`], which is the group's view, the
-//! reasons of pgp_reasons and what is told of its pool, and the [`Outcome`] of each way on. [`put_words`] and [`put_json`] put the
-//! text, and their contracts define it whole; words are put together on a `Page`. A summary of groups names devices, counts and
-//! epochs in the same way, and is written as JSON by the same parts.
+//! reasons of pgp_reasons and what is told of its pool, and the [`Outcome`] of each way on. The contracts of [`Advice::words`] and
+//! [`Advice::json`] define the text whole; words are put together on a `Page`. A summary of groups names counts and epochs in the
+//! same way, and is written as JSON by the same parts.
 #![tactic(auto)]
 
 mod advice;
@@ -24,8 +24,7 @@ mod ways_words;
 
 pub use advice::Advice;
 pub use explanation::Explanation;
-pub use group_json::{into_line, put_json};
-pub use group_words::put_words;
-pub use names::{Device, plural};
+pub use group_json::into_line;
+pub use names::plural;
 pub use offset::EpochOffset;
 pub use outcome::{Outcome, Then};

@@ -8,7 +8,7 @@ ghost use Rattle.pgp_group_words.specs.Text.{Puts};
 
 use super::explanation::Explanation;
 use super::lags::{Laggard, laggards};
-use super::names::{Leader, are, plural};
+use super::names::{Leader, plural};
 use super::offset::EpochOffset;
 use super::page::Page;
 use pgp_ids::{Epoch, Info, Member, OsdId, Verdict};
@@ -53,7 +53,7 @@ impl Page {
     {
         let blocked_by = explanation.view.blocked_by.as_slice();
         let down = self.list(blocked_by)?;
-        let are = are(blocked_by.len());
+        let are = plural(blocked_by.len(), "is", "are");
         let epochs = self.epochs(explanation.reasons.blocking.as_slice())?;
         write!(
             self,
@@ -122,7 +122,7 @@ impl Page {
     {
         let epochs = self.epochs_in(interval)?;
         let down = self.list(interval.down.as_slice())?;
-        let are = are(interval.down.len());
+        let are = plural(interval.down.len(), "is", "are");
         write!(
             self,
             " Of those that were complete in {epochs}, when it was last clean, {down} {are} down."

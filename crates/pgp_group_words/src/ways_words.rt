@@ -5,7 +5,7 @@ ghost use Rattle.pgp_group_words.specs.Text.{Puts};
 ghost use Rattle.pgp_group_words.specs.WaysWords.{and_part, any_line, away_part, deed_line, may_be_more as may_be_others, more_line, outcome_lines, outcomes_lines, price_line, resort_heading, resort_lines, shape_line, then_line, unreadable_line, ways_heading, ways_lines, without_part};
 
 use super::advice::Advice;
-use super::names::are;
+use super::names::plural;
 use super::outcome::{Outcome, Then};
 use super::page::{InWords, Page};
 use pgp_ids::{OsdId, Seq, Verdict};
@@ -128,7 +128,7 @@ impl Page {
         ensures { OnOk result (Puts self.old self.new (away_part osds.now)) }
     {
         let names = self.list(osds.as_slice())?;
-        let are = are(osds.len());
+        let are = plural(osds.len(), "is", "are");
         writeln!(self, "{names}, which {are} down, may have it")
     }
 }

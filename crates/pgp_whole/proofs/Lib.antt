@@ -4,7 +4,6 @@ pub mod EntryLines
 pub mod Reading
 pub mod Script
 pub mod FieldLemmas
-pub mod SummaryLemmas
 pub mod SummaryCounts
 pub mod SummaryDevices
 pub mod SummaryHearing

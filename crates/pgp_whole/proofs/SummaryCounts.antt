@@ -1,19 +1,22 @@
 -- What one group more adds to the counts of devices.
-use Rattle.std.proofs.Common.{◌≡◌, ℕ, ◌+◌, List, [], ◌∷◌, ◌++◌, Bool, true, false, cond, Some, nat_eq, nat_lt, option_map, refl, ap, sym, ◌∙◌, inl, inr, arith}
-use Rattle.std.specs.List.{All, count_by, list_any}
+use Rattle.std.proofs.Common.{◌≡◌, ℕ, ◌+◌, ◌<◌, List, [], ◌∷◌, ◌++◌, Bool, true, false, cond, nat_eq, nat_lt, slice_index, refl, ap, sym, ◌∙◌, inl, inr, arith}
+use Rattle.std.specs.List.{All, count_by, filter, list_any}
 use Rattle.std.proofs.lemmas.Bool.{cases_Bool, false_from_ne_true}
 use Rattle.std.proofs.lemmas.Bool.Decides.{nat_tests}
 use Rattle.std.proofs.lemmas.List.Sums.{sum_by-append}
 use Rattle.std.proofs.lemmas.List.Elements.{All-contains}
+use Rattle.std.proofs.lemmas.List.Kept.{AllPairs-filter}
 use Rattle.pgp_lists.specs.Ordered.{IsAscending}
 use Rattle.pgp_lists.proofs.Members.{any-contains}
-use Rattle.pgp_lists.proofs.Last.{last_where-push}
-use Rattle.pgp_lists.proofs.Pairs.{AllPairs-first, AllPairs-rest}
-use Rattle.pgp_lists.specs.Last.{last_where}
-use Rattle.pgp_ids.specs.declared.pg_id.PgId.{PgId}
+use Rattle.pgp_lists.proofs.Pairs.{AllPairs-first, AllPairs-nil, AllPairs-rest}
+use Rattle.pgp_ids.specs.declared.verdict.Verdict.TheVariants.{Down}
 use Rattle.pgp_group.specs.GroupLog.{GroupLog}
-use Rattle.pgp_group.specs.View.{view_of}
-use Rattle.pgp_whole.specs.Sums.{waits_as, first_where_waiting}
+use Rattle.pgp_group.specs.Peering.{prior}
+use Rattle.pgp_reasons.proofs.AwaitedLemmas.{blocked_by-ascends}
+use Rattle.pgp_reasons.specs.GroupWays.{brings_back}
+use Rattle.pgp_reasons.specs.Smallest.{holds}
+use Rattle.pgp_whole.specs.Summary.{blockers, counted, freers, has_verdict}
+use Rattle.pgp_whole.specs.Sums.{AreCounts}
 
 no-more : (osd : ℕ) (osds : List ℕ) → list_any (nat_eq osd) osds ≡ false → count_by (nat_eq osd) osds ≡ 0
 no-more osd [] none = refl
@@ -40,8 +43,26 @@ count-once osd (o ∷ osds) up =
       | inr apart ↦ grind (arith, apart, rest)
     ]
 
--- ---- groups that wait
+count-snoc : {X : Type 0} (test : X → Bool) (xs : List X) (x : X) → count_by test (xs ++ x ∷ []) ≡ count_by test xs + cond (test x) 1 0
+count-snoc test xs x = sum_by-append (λ y. cond (test y) 1 0) xs (x ∷ []) ∙ ap (λ n. count_by test xs + n) (omega arith)
 
-pub put-waiting : (groups : List GroupLog) (g : GroupLog) (q : PgId) (b : Bool) → waits_as q g ≡ b → cond b (Some (view_of g).first) (first_where_waiting groups q) ≡ first_where_waiting (groups ++ g ∷ []) q
-put-waiting groups g q true is = sym (ap (option_map (λ (g : GroupLog). (view_of g).first)) (last_where-push (waits_as q) groups g ∙ ap (λ b. cond b (Some g) (last_where (waits_as q) groups)) is))
-put-waiting groups g q false is = sym (ap (option_map (λ (g : GroupLog). (view_of g).first)) (last_where-push (waits_as q) groups g ∙ ap (λ b. cond b (Some g) (last_where (waits_as q) groups)) is))
+-- the counts, once these devices of the group are counted too
+pub counts-more : (devices : GroupLog → List ℕ) (groups : List GroupLog) (g : GroupLog) (osds old new : List ℕ) → ((osd : ℕ) → holds osds osd ≡ holds (devices g) osd)
+    → ((osd n : ℕ) → IsAscending nat_lt osds → osd < 4096 → slice_index old osd ≡ counted n → slice_index new osd ≡ counted (n + cond (holds osds osd) 1 0))
+    → IsAscending nat_lt osds → AreCounts devices groups old → AreCounts devices (groups ++ g ∷ []) new
+counts-more devices groups g osds old new same each up are = λ osd below.
+    let n : ℕ = count_by (λ h. holds (devices h) osd) groups in
+    each osd n up below (are osd below)
+    ∙ ap (λ b. counted (n + cond b 1 0)) (same osd)
+    ∙ ap counted (sym (count-snoc (λ h. holds (devices h) osd) groups g))
+
+-- ---- the devices of a group
+
+pub blockers-ascend : (g : GroupLog) → IsAscending nat_lt (blockers g)
+blockers-ascend g = elim (cases_Bool (has_verdict Down g)) [
+  | inl down ↦ rw down (blocked_by-ascends g)
+  | inr other ↦ rw other (AllPairs-nil (λ x y. nat_lt x y ≡ true))
+]
+
+pub freers-ascend : (g : GroupLog) → IsAscending nat_lt (freers g)
+freers-ascend g = AllPairs-filter (λ x y. nat_lt x y ≡ true) (λ osd. brings_back g (osd ∷ [])) (blockers g) (blockers-ascend g)

@@ -4,7 +4,6 @@ pub mod Compaction
 pub mod Joining
 pub mod Pools
 pub mod Summary
-pub mod Ranks
 pub mod Sums
 pub mod Hearing
 pub mod SummaryText

@@ -1,8 +1,9 @@
 -- What the groups of a log say together: how many have which verdict, and for which devices they wait.
-use Rattle.std.specs.Prelude.{ℕ, ◌+◌, ◌-◌, ◌^◌, List, [], ◌∷◌, Bool, not, min, nat_eq, nat_lt, slice_index, fold, map, filter, filter_map, flat_map, count_by, if◌then◌else◌}
+use Rattle.std.specs.Prelude.{ℕ, ◌-◌, ◌^◌, List, [], ◌∷◌, Bool, ◌||◌, not, min, nat_eq, nat_lt, map, filter, filter_map, flat_map, count_by, if◌then◌else◌}
 use Rattle.std.specs.List.{range_with_len}
-use Rattle.std.specs.Ordering.{nat_cmp, is_lt, then_cmp}
+use Rattle.std.specs.Ordering.{flip_args, is_lt, nat_cmp, on, then_cmp}
 use Rattle.std.specs.declared.cmp.Ordering.{Ordering}
+use Rattle.std.specs.declared.cmp.Reverse.{Reverse}
 use Rattle.pgp_ids.specs.declared.entry.Entry.{Entry}
 use Rattle.pgp_ids.specs.declared.incremental.Incremental.{Incremental}
 use Rattle.pgp_ids.specs.declared.pg_id.PgId.{PgId}
@@ -14,13 +15,12 @@ use Rattle.pgp_group.specs.Entries.{incs_of}
 use Rattle.pgp_group.specs.GroupLog.{GroupLog, group_in}
 use Rattle.pgp_group.specs.Heard.{has_member, heard}
 use Rattle.pgp_group.specs.Peering.{prior}
-use Rattle.pgp_group.specs.Verdict.{in_order, place_of, verdict}
+use Rattle.pgp_group.specs.Verdict.{place_of, verdict}
 use Rattle.pgp_reasons.specs.GroupWays.{brings_back}
 use Rattle.pgp_reasons.specs.Smallest.{holds}
 use Rattle.pgp_whole.specs.Pools.{pool_facts}
+use Rattle.pgp_whole.specs.declared.devices.DeviceWaits.{DeviceWaits}
 use Rattle.pgp_whole.specs.declared.summary.Summary.{Summary}
-use Rattle.pgp_whole.specs.declared.waits.Waits.{Waits}
-use Rattle.pgp_whole.specs.declared.tally.Tally.{Tally}
 
 -- this many, as far as a number of the machine goes, which no count of groups comes near
 abbrev pub counted : ℕ → ℕ
@@ -50,29 +50,17 @@ group_logs log = filter_map (group_in log) (all_groups (incs_of log))
 
 -- ---- their verdicts
 
+-- the two are the same
+abbrev pub is_verdict : Verdict → Verdict → Bool
+is_verdict other verdict = nat_eq (place_of verdict) (place_of other)
+
 -- this is the group's verdict
 abbrev pub has_verdict : Verdict → GroupLog → Bool
-has_verdict other g = nat_eq (place_of (verdict g)) (place_of other)
+has_verdict other g = is_verdict other (verdict g)
 
--- how many of the groups have this verdict
-abbrev pub with_verdict : List GroupLog → Verdict → ℕ
-with_verdict groups other = counted (count_by (has_verdict other) groups)
-
--- how many have each
-abbrev pub tally_of : List GroupLog → Tally
-tally_of groups = record { counts = map (with_verdict groups) in_order }
-
--- how many groups of a tally have this verdict
-abbrev pub verdict_count : Tally → Verdict → ℕ
-verdict_count tally verdict = slice_index tally.counts (place_of verdict)
-
--- one group more
-abbrev pub one_more : ℕ → ℕ → ℕ
-one_more all count = counted (all + count)
-
--- how many groups there are
-abbrev pub group_total : Tally → ℕ
-group_total tally = fold one_more 0 tally.counts
+-- how many of the groups that are summed up have this verdict
+abbrev pub verdict_count : List Verdict → Verdict → ℕ
+verdict_count verdicts other = count_by (is_verdict other) verdicts
 
 -- ---- the devices for which they wait
 
@@ -93,41 +81,44 @@ unheard g =
 abbrev pub groups_with : (GroupLog → List ℕ) → List GroupLog → ℕ → ℕ
 groups_with devices groups osd = counted (count_by (λ g. holds (devices g) osd) groups)
 
+-- a number by which the greater stands first
+abbrev pub down_from : ℕ → Reverse ℕ
+down_from n = record { 0 = n }
+
 -- how many of the groups the device frees alone, how many it blocks, and how many wait to hear from it
-abbrev pub waits_of : List GroupLog → ℕ → Waits
+abbrev pub waits_of : List GroupLog → ℕ → DeviceWaits
 waits_of groups osd =
-    record { frees = groups_with freers groups osd; blocks = groups_with blockers groups osd; awaited = groups_with unheard groups osd }
+    record {
+      frees = down_from (groups_with freers groups osd);
+      blocks = down_from (groups_with blockers groups osd);
+      awaited = down_from (groups_with unheard groups osd);
+      osd = osd;
+    }
 
--- how many groups wait for a device
-abbrev pub waiting : Waits → ℕ
-waiting waits = counted (waits.blocks + waits.awaited)
-
--- by which the one with the greater number stands first
-abbrev pub greater_first : (ℕ → ℕ) → ℕ → ℕ → Ordering
-greater_first number a b = nat_cmp (number b) (number a)
+-- some group waits for the device
+abbrev pub is_waited_for : DeviceWaits → Bool
+is_waited_for device = nat_lt 0 device.blocks.0 || nat_lt 0 device.awaited.0
 
 -- the device that frees more groups stands first; then the one that blocks more; then the one that more have yet to hear from; and
 -- then the one of the lower number
-abbrev pub stands_first : (ℕ → Waits) → ℕ → ℕ → Bool
-stands_first waits a b = is_lt (
-    then_cmp (greater_first (λ osd. (waits osd).frees))
-    (then_cmp (greater_first (λ osd. (waits osd).blocks)) (then_cmp (greater_first (λ osd. (waits osd).awaited)) nat_cmp)) a b)
+abbrev pub greater_first : (DeviceWaits → Reverse ℕ) → DeviceWaits → DeviceWaits → Ordering
+greater_first number = on (λ device. (number device).0) (flip_args nat_cmp)
 
--- some group waits for the device
-abbrev pub is_waited_for : (ℕ → Waits) → ℕ → Bool
-is_waited_for waits osd = nat_lt 0 (waiting (waits osd))
+abbrev pub device_cmp : DeviceWaits → DeviceWaits → Ordering
+device_cmp =
+    then_cmp (greater_first (λ device. device.frees))
+    (then_cmp (greater_first (λ device. device.blocks)) (then_cmp (greater_first (λ device. device.awaited)) (on (λ device. device.osd) nat_cmp)))
 
--- a device, and how many groups wait for it
-abbrev pub Awaited : Type 0
-Awaited = ℕ × Waits
+abbrev pub stands_first : DeviceWaits → DeviceWaits → Bool
+stands_first a b = is_lt (device_cmp a b)
 
 -- the numbers of all devices that there may be
 unfoldable pub device_numbers : List ℕ
 device_numbers = range_with_len 0 4096
 
 -- the devices for which groups wait
-abbrev pub devices_of : (ℕ → Waits) → List Awaited
-devices_of waits = map (λ osd. (osd, waits osd)) (ascending (stands_first waits) (filter (is_waited_for waits) device_numbers))
+abbrev pub devices_of : (ℕ → DeviceWaits) → List DeviceWaits
+devices_of waits = ascending stands_first (filter is_waited_for (map waits device_numbers))
 
 -- ---- all of it
 
@@ -135,4 +126,4 @@ devices_of waits = map (λ osd. (osd, waits osd)) (ascending (stands_first waits
 abbrev pub summary_of : List Entry → Summary
 summary_of log =
     let groups = group_logs log in
-    record { epoch = epoch (incs_of log); tally = tally_of groups; devices = devices_of (waits_of groups) }
+    record { epoch = epoch (incs_of log); verdicts = map verdict groups; devices = devices_of (waits_of groups) }

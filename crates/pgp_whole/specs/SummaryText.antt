@@ -11,102 +11,96 @@ use Rattle.pgp_group_words.specs.Text.{Text, joined, line}
 use Rattle.pgp_group_words.specs.Names.{epoch_name, device_name, plural}
 use Rattle.pgp_group_words.specs.Json.{epoch_data}
 use Rattle.pgp_group_words.specs.declared.offset.EpochOffset.{EpochOffset}
-use Rattle.pgp_whole.specs.Summary.{Awaited, verdict_count, group_total}
+use Rattle.pgp_whole.specs.Summary.{verdict_count}
+use Rattle.pgp_whole.specs.declared.devices.DeviceWaits.{DeviceWaits}
 use Rattle.pgp_whole.specs.declared.summary.Summary.{Summary}
-use Rattle.pgp_whole.specs.declared.waits.Waits.{Waits}
-use Rattle.pgp_whole.specs.declared.tally.Tally.{Tally}
 
 -- ---- in words
 
 -- how many groups there are, by the map of which epoch
 unfoldable pub total_line : Summary → EpochOffset → Text
 total_line summary offset = line (
-    decimal (group_total summary.tally)
+    decimal (length summary.verdicts)
     ∷ codes " "
-    ∷ plural (group_total summary.tally) (codes "group") (codes "groups")
+    ∷ plural (length summary.verdicts) (codes "group") (codes "groups")
     ∷ codes " at epoch "
     ∷ epoch_name offset summary.epoch
     ∷ [])
 
 -- how many have this verdict, where some have it
-unfoldable pub verdict_line : Tally → Verdict → Text
-verdict_line tally verdict =
-    if verdict_count tally verdict == 0 then []
-    else line (codes "  " ∷ verdict_name verdict ∷ codes " " ∷ decimal (verdict_count tally verdict) ∷ [])
+unfoldable pub verdict_line : List Verdict → Verdict → Text
+verdict_line verdicts verdict =
+    if verdict_count verdicts verdict == 0 then []
+    else line (codes "  " ∷ verdict_name verdict ∷ codes " " ∷ decimal (verdict_count verdicts verdict) ∷ [])
 
 -- a line for each verdict, in the order in which their causes are looked at
-unfoldable pub tally_lines : Tally → Text
-tally_lines tally = flat_map (verdict_line tally) in_order
+unfoldable pub tally_lines : List Verdict → Text
+tally_lines verdicts = flat_map (verdict_line verdicts) in_order
 
--- what a device does to this many groups
-abbrev pub count_part : Text → ℕ → Text
-count_part does count = joined (does ∷ codes " " ∷ decimal count ∷ codes " " ∷ plural count (codes "group") (codes "groups") ∷ [])
-
-unfoldable pub blocks_part : ℕ → Text
-blocks_part count = if count == 0 then [] else count_part (codes "blocks") count
+-- what a device does to this many groups, where there are some
+unfoldable pub groups_part : Text → ℕ → Text
+groups_part does count =
+    if count == 0 then [] else joined (does ∷ codes " " ∷ decimal count ∷ codes " " ∷ plural count (codes "group") (codes "groups") ∷ [])
 
 unfoldable pub frees_part : ℕ → Text
 frees_part count = if count == 0 then [] else joined (codes ", and alone frees " ∷ decimal count ∷ [])
 
-unfoldable pub awaited_part : ℕ → Text
-awaited_part count = if count == 0 then [] else count_part (codes "has yet to be heard by") count
-
-unfoldable pub between_part : Waits → Text
-between_part waits = if nat_lt 0 waits.blocks && nat_lt 0 waits.awaited then codes ", and " else []
+unfoldable pub between_part : DeviceWaits → Text
+between_part device = if nat_lt 0 device.blocks.0 && nat_lt 0 device.awaited.0 then codes ", and " else []
 
 -- how many groups a device blocks, how many of them it frees alone, and how many wait to hear from it
-unfoldable pub device_line : Awaited → Text
+unfoldable pub device_line : DeviceWaits → Text
 device_line device = line (
-    device_name device.0
+    device_name device.osd
     ∷ codes " "
-    ∷ blocks_part device.1.blocks
-    ∷ frees_part device.1.frees
-    ∷ between_part device.1
-    ∷ awaited_part device.1.awaited
+    ∷ groups_part (codes "blocks") device.blocks.0
+    ∷ frees_part device.frees.0
+    ∷ between_part device
+    ∷ groups_part (codes "has yet to be heard by") device.awaited.0
     ∷ [])
 
 -- an empty line before the devices, where there are some
-abbrev pub gap_before : List Awaited → Text
+abbrev pub gap_before : List DeviceWaits → Text
 gap_before devices = if length devices == 0 then [] else codes "\n"
 
-unfoldable pub device_lines : List Awaited → Text
+unfoldable pub device_lines : List DeviceWaits → Text
 device_lines devices = gap_before devices ++ flat_map device_line devices
 
 -- what is said of a summary in words
 unfoldable pub summary_words : Summary → EpochOffset → Text
-summary_words summary offset = joined (total_line summary offset ∷ tally_lines summary.tally ∷ device_lines summary.devices ∷ [])
+summary_words summary offset = joined (total_line summary offset ∷ tally_lines summary.verdicts ∷ device_lines summary.devices ∷ [])
 
 -- ---- as JSON
 
-abbrev pub device_data : Awaited → Data
+abbrev pub device_data : DeviceWaits → Data
 device_data device = object_with (
-    (codes "awaited", number_data device.1.awaited)
-    ∷ (codes "blocks", number_data device.1.blocks)
-    ∷ (codes "frees", number_data device.1.frees)
-    ∷ (codes "osd", number_data device.0)
+    (codes "awaited", number_data device.awaited.0)
+    ∷ (codes "blocks", number_data device.blocks.0)
+    ∷ (codes "frees", number_data device.frees.0)
+    ∷ (codes "osd", number_data device.osd)
     ∷ [])
 
 -- a verdict that some group has
-abbrev pub verdict_field : Tally → Verdict → List Field
-verdict_field tally verdict =
-    if verdict_count tally verdict == 0 then [] else (verdict_name verdict, number_data (verdict_count tally verdict)) ∷ []
+abbrev pub verdict_field : List Verdict → Verdict → List Field
+verdict_field verdicts verdict =
+    if verdict_count verdicts verdict == 0 then [] else (verdict_name verdict, number_data (verdict_count verdicts verdict)) ∷ []
 
 -- the verdicts, in the ascending order of their names
 abbrev pub verdicts_by_name : List Verdict
 verdicts_by_name = Down ∷ Incomplete ∷ NeedLog ∷ NeedUpThru ∷ NoPrimary ∷ Serve ∷ Short ∷ Waiting ∷ []
 
-unfoldable pub tally_fields : Tally → List Field
-tally_fields tally = flat_map (verdict_field tally) verdicts_by_name
+unfoldable pub tally_fields : List Verdict → List Field
+tally_fields verdicts = flat_map (verdict_field verdicts) verdicts_by_name
 
-abbrev pub tally_data : Tally → Data
-tally_data tally = object_with (tally_fields tally)
+abbrev pub tally_data : List Verdict → Data
+tally_data verdicts = object_with (tally_fields verdicts)
 
 abbrev pub summary_data : EpochOffset → Summary → Data
 summary_data offset summary = object_with (
     (codes "devices", list_data device_data summary.devices)
     ∷ (codes "epoch", epoch_data offset summary.epoch)
-    ∷ (codes "groups", number_data (group_total summary.tally))
-    ∷ (codes "verdicts", tally_data summary.tally)
+    ∷ (codes "groups", number_data (length summary.verdicts))
+    ∷ (codes "verdicts", tally_data summary.verdicts)
     ∷ [])
 
 unfoldable pub summary_json : Summary → EpochOffset → Text

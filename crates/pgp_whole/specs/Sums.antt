@@ -1,30 +1,28 @@
 -- What is kept of groups while they are summed up.
-use Rattle.std.specs.Prelude.{◌≡◌, ℕ, ◌<◌, List, Option, Bool, ◌&&◌, slice_index, option_map}
-use Rattle.std.specs.HashMap as hash
-use Rattle.pgp_ids.specs.declared.pg_id.PgId.{PgId}
-use Rattle.pgp_ids.specs.declared.verdict.Verdict.TheVariants.{Waiting}
-use Rattle.pgp_lists.specs.Last.{last_where}
-use Rattle.pgp_map.specs.Pools.{is_same_group}
+use Rattle.std.specs.Prelude.{◌≡◌, ℕ, ◌<◌, List, map, slice_index}
 use Rattle.pgp_group.specs.GroupLog.{GroupLog}
-use Rattle.pgp_group.specs.View.{view_of}
-use Rattle.pgp_whole.specs.Summary.{tally_of, groups_with, blockers, freers, unheard, has_verdict}
+use Rattle.pgp_group.specs.Verdict.{verdict}
+use Rattle.pgp_whole.specs.Summary.{blockers, down_from, freers, groups_with, unheard}
+use Rattle.pgp_whole.specs.declared.devices.DeviceWaits.{DeviceWaits}
 use Rattle.pgp_whole.specs.declared.group_sums.GroupSums.{GroupSums}
 
--- the group is this one, and waits to hear from members
-abbrev pub waits_as : PgId → GroupLog → Bool
-waits_as pg g = is_same_group g.pg pg && has_verdict Waiting g
-
--- the first epoch of its current interval, where one of the groups is this and waits
-abbrev pub first_where_waiting : List GroupLog → PgId → Option ℕ
-first_where_waiting groups pg = option_map (λ g. (view_of g).first) (last_where (waits_as pg) groups)
+-- for each device, for how many of the groups it is among those of the group
+abbrev pub AreCounts : (GroupLog → List ℕ) → List GroupLog → List ℕ → Type 0
+AreCounts devices groups counts = (osd : ℕ) → osd < 4096 → slice_index counts osd ≡ groups_with devices groups osd
 
 -- these are the sums of the groups
 pub record AreSums (groups : List GroupLog) (sums : GroupSums) : Type 0 where
-  pub tally_is : sums.tally ≡ tally_of groups
-  pub blocks_are : (osd : ℕ) → osd < 4096 → slice_index sums.blocks osd ≡ groups_with blockers groups osd
-  pub frees_are : (osd : ℕ) → osd < 4096 → slice_index sums.frees osd ≡ groups_with freers groups osd
-  pub waiting_are : (pg : PgId) → hash.get is_same_group sums.waiting pg ≡ first_where_waiting groups pg
+  pub verdicts_are : sums.verdicts ≡ map verdict groups
+  pub blocks_are : AreCounts blockers groups sums.blocks
+  pub frees_are : AreCounts freers groups sums.frees
+  pub awaited_are : AreCounts unheard groups sums.awaited
 
--- for each device, how many of the groups have yet to hear from it
-abbrev pub AreAwaited : List GroupLog → List ℕ → Type 0
-AreAwaited groups counts = (osd : ℕ) → osd < 4096 → slice_index counts osd ≡ groups_with unheard groups osd
+-- how many groups wait for a device, by these sums
+abbrev pub waits_in : GroupSums → ℕ → DeviceWaits
+waits_in sums osd =
+    record {
+      frees = down_from (slice_index sums.frees osd);
+      blocks = down_from (slice_index sums.blocks osd);
+      awaited = down_from (slice_index sums.awaited osd);
+      osd = osd;
+    }

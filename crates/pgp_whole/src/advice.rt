@@ -3,7 +3,7 @@
 ghost use Rattle.std.specs.Prelude.{◌≡◌, Some, None, map as mapped, IfOk, IfSome, IfNone};
 ghost use Rattle.pgp_reasons.specs.GroupWays.{lost_at_epoch};
 ghost use Rattle.pgp_group.specs.View.{scratch};
-ghost use Rattle.pgp_whole.specs.Advice.{AreOutcomes, AreResorts, IsAdvice, IsAfterWay, IsOutcomeOfChoice, IsToldBy, all_start, choice_of, telling_inc, next_epoch, way_inc};
+ghost use Rattle.pgp_whole.specs.Advice.{AreOutcomes, AreResorts, IsAdvice, IsAfterWay, IsOutcomeOfChoice, IsToldBy, choice_of, telling_inc, next_epoch, way_inc};
 
 use super::choice::{Choice, copy, resorts, starts, told_sets};
 use super::groups::explanation_of;
@@ -34,28 +34,14 @@ pub(crate) fn advice_of(
     let view = &explanation.view;
     let sets = told_sets(alloc, &explanation.reasons.ways)?;
     let sets = sets.as_slice();
-    let ways = ways_of(alloc, log, pg, view, sets, offset)?;
+    let choices = starts(alloc, sets)?;
+    let ways = outcomes_of(alloc, log, pg, view, choices.as_slice(), offset)?;
     let last_resort = resorts_of(alloc, log, pg, view, sets, losses, offset)?;
     Ok(Some(Advice {
         explanation,
         ways,
         last_resort,
     }))
-}
-
-/// The ways in which all of a set boot.
-fn ways_of(
-    alloc: Global,
-    log: &Log,
-    pg: &PgId,
-    view: &View,
-    sets: &[Seq<OsdId>],
-    offset: EpochOffset,
-) -> Result<Seq<Outcome>, AllocError>
-    ensures { IfOk result (λ ways. scratch log.now pg.now ≡ Some view.now → AreOutcomes log.now pg.now offset (mapped all_start sets.now) ways) }
-{
-    let choices = starts(alloc, sets)?;
-    outcomes_of(alloc, log, pg, view, choices.as_slice(), offset)
 }
 
 /// The ways that declare devices of these sets lost, where these are wanted.

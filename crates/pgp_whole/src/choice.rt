@@ -1,7 +1,7 @@
 //! Which ways to end that a group is down are told.
 
-ghost use Rattle.std.specs.Prelude.{◌≡◌, ◌++◌, ◌∷◌, [], not, nat_eq, map as mapped, filter as filtered, flat_map, take, IfOk, OnOk};
-ghost use Rattle.pgp_whole.specs.Advice.{all_lost, all_start, any_sets, one_lost, resorts as last_resorts, told_sets};
+ghost use Rattle.std.specs.Prelude.{◌≡◌, ◌++◌, ◌∷◌, [], not, nat_eq, map as mapped, filter as filtered, IfOk, OnOk};
+ghost use Rattle.pgp_whole.specs.Advice.{all_start, any_sets, choice_with, one_lost, resorts as last_resorts, told_sets};
 
 use pgp_ids::{OsdId, Seq};
 use pgp_reasons::Ways;
@@ -17,10 +17,22 @@ pub(crate) struct Choice {
     pub losses: Seq<OsdId>,
 }
 
+impl Choice {
+    /// These boot, and those are lost.
+    fn of(alloc: Global, starts: &[OsdId], losses: &[OsdId]) -> Result<Self, AllocError>
+        ensures { IfOk result (λ choice. choice ≡ choice_with starts.now losses.now) }
+    {
+        Ok(Choice {
+            starts: copy(alloc, starts)?,
+            losses: copy(alloc, losses)?,
+        })
+    }
+}
+
 /// Sets of devices to start: those that are listed; where any so many of some devices will do, each device if one is enough,
 /// and else the first so many.
-pub(crate) fn told_sets(alloc: Global, ways: &Ways) -> Result<Seq<Seq<OsdId>>, AllocError>
-    ensures { IfOk result (λ sets. sets ≡ told_sets ways.now) }
+pub(crate) fn told_sets(alloc: Global, ways: &Ways) -> Result<Vec<Seq<OsdId>>, AllocError>
+    ensures { IfOk result (λ sets. sets.items ≡ told_sets ways.now) }
 {
     match ways {
         Ways::Any(any) => sets_of_any(alloc, any.least, any.osds.as_slice()),
@@ -29,44 +41,36 @@ pub(crate) fn told_sets(alloc: Global, ways: &Ways) -> Result<Seq<Seq<OsdId>>, A
 }
 
 /// Each device if one is enough, and else the first so many.
-fn sets_of_any(alloc: Global, least: usize, osds: &[OsdId]) -> Result<Seq<Seq<OsdId>>, AllocError>
-    ensures { IfOk result (λ sets. sets ≡ any_sets least osds.now) }
+fn sets_of_any(alloc: Global, least: usize, osds: &[OsdId]) -> Result<Vec<Seq<OsdId>>, AllocError>
+    ensures { IfOk result (λ sets. sets.items ≡ any_sets least osds.now) }
 {
     if least == 1 {
         return singles(alloc, osds);
     }
-    let mut sets = Seq::new(alloc);
-    sets.push(first_of(alloc, osds, least)?)?;
-    Ok(sets)
+    let first = copy(alloc, &osds[..least.min(osds.len())])?;
+    Ok(vec![in alloc; first]?)
 }
 
 /// Each of the devices alone.
-fn singles(alloc: Global, osds: &[OsdId]) -> Result<Seq<Seq<OsdId>>, AllocError>
-    ensures { IfOk result (λ sets. sets ≡ mapped (λ osd. osd ∷ []) osds.now) }
+fn singles(alloc: Global, osds: &[OsdId]) -> Result<Vec<Seq<OsdId>>, AllocError>
+    ensures { IfOk result (λ sets. sets.items ≡ mapped (λ osd. osd ∷ []) osds.now) }
 {
-    let mut sets = Seq::new(alloc);
+    let mut sets = Vec::new(alloc);
     for osd in osds {
-        sets.push(alone(alloc, *osd)?)?;
+        sets.push(copy(alloc, &[*osd])?)?;
     }
     Ok(sets)
 }
 
-/// The device alone.
-fn alone(alloc: Global, osd: OsdId) -> Result<Seq<OsdId>, AllocError>
-    ensures { IfOk result (λ set. set ≡ osd ∷ []) }
+/// Copies of these sets.
+fn copies(alloc: Global, sets: &[Seq<OsdId>]) -> Result<Vec<Seq<OsdId>>, AllocError>
+    ensures { IfOk result (λ copies. copies.items ≡ sets.now) }
 {
-    copy(alloc, &[osd])
-}
-
-/// The first so many of the devices.
-fn first_of(alloc: Global, osds: &[OsdId], count: usize) -> Result<Seq<OsdId>, AllocError>
-    ensures { IfOk result (λ set. set ≡ take count osds.now) }
-{
-    if count < osds.len() {
-        copy(alloc, &osds[..count])
-    } else {
-        copy(alloc, osds)
+    let mut copies = Vec::new(alloc);
+    for set in sets {
+        copies.push(copy(alloc, set.as_slice())?)?;
     }
+    Ok(copies)
 }
 
 /// A copy of these devices.
@@ -76,27 +80,13 @@ pub(crate) fn copy(alloc: Global, osds: &[OsdId]) -> Result<Seq<OsdId>, AllocErr
     Ok(Seq::from_vec(osds.to_vec(alloc)?))
 }
 
-/// Copies of these sets.
-fn copies(alloc: Global, sets: &[Seq<OsdId>]) -> Result<Seq<Seq<OsdId>>, AllocError>
-    ensures { IfOk result (λ copies. copies ≡ sets.now) }
-{
-    let mut copies = Seq::new(alloc);
-    for set in sets {
-        copies.push(copy(alloc, set.as_slice())?)?;
-    }
-    Ok(copies)
-}
-
 /// All of each set boot.
 pub(crate) fn starts(alloc: Global, sets: &[Seq<OsdId>]) -> Result<Vec<Choice>, AllocError>
     ensures { IfOk result (λ choices. choices.items ≡ mapped all_start sets.now) }
 {
     let mut choices = Vec::new(alloc);
     for set in sets {
-        choices.push(Choice {
-            starts: copy(alloc, set.as_slice())?,
-            losses: Seq::new(alloc),
-        })?;
+        choices.push(Choice::of(alloc, set.as_slice(), &[])?)?;
     }
     Ok(choices)
 }
@@ -106,36 +96,16 @@ pub(crate) fn resorts(alloc: Global, sets: &[Seq<OsdId>]) -> Result<Vec<Choice>,
     ensures { IfOk result (λ choices. choices.items ≡ last_resorts sets.now) }
 {
     let mut choices = Vec::new(alloc);
-    add_each_with_one_lost(alloc, &mut choices, sets)?;
-    add_each_with_all_lost(alloc, &mut choices, sets)?;
+    for set in sets {
+        add_one_lost(alloc, &mut choices, set.as_slice())?;
+    }
+    for set in sets {
+        if set.len() > 1 {
+            choices.push(Choice::of(alloc, &[], set.as_slice())?)?;
+        }
+    }
     choices.truncate(MOST_RESORTS);
     Ok(choices)
-}
-
-fn add_each_with_one_lost(
-    alloc: Global,
-    choices: &mut Vec<Choice>,
-    sets: &[Seq<OsdId>],
-) -> Result<(), AllocError>
-    ensures { OnOk result (choices.new.items ≡ choices.old.items ++ flat_map one_lost sets.now) }
-{
-    for set in sets {
-        add_one_lost(alloc, choices, set.as_slice())?;
-    }
-    Ok(())
-}
-
-fn add_each_with_all_lost(
-    alloc: Global,
-    choices: &mut Vec<Choice>,
-    sets: &[Seq<OsdId>],
-) -> Result<(), AllocError>
-    ensures { OnOk result (choices.new.items ≡ choices.old.items ++ flat_map all_lost sets.now) }
-{
-    for set in sets {
-        add_all_lost(alloc, choices, set.as_slice())?;
-    }
-    Ok(())
 }
 
 /// Adds each way in which one of the set is declared lost, and the others boot.
@@ -143,36 +113,18 @@ fn add_one_lost(alloc: Global, choices: &mut Vec<Choice>, set: &[OsdId]) -> Resu
     ensures { OnOk result (choices.new.items ≡ choices.old.items ++ one_lost set.now) }
 {
     for osd in set {
-        choices.push(Choice {
-            starts: without(alloc, set, *osd)?,
-            losses: alone(alloc, *osd)?,
-        })?;
+        let others = without(alloc, set, *osd)?;
+        choices.push(Choice::of(alloc, others.as_slice(), &[*osd])?)?;
     }
     Ok(())
 }
 
 /// The devices without this one.
-fn without(alloc: Global, osds: &[OsdId], osd: OsdId) -> Result<Seq<OsdId>, AllocError>
-    ensures { IfOk result (λ others. others ≡ filtered (λ other. not (nat_eq other osd)) osds.now) }
+fn without(alloc: Global, osds: &[OsdId], osd: OsdId) -> Result<Vec<OsdId>, AllocError>
+    ensures { IfOk result (λ others. others.items ≡ filtered (λ other. not (nat_eq other osd)) osds.now) }
 {
-    let others: Vec<OsdId> = osds
-        .iter()
+    osds.iter()
         .copied()
         .filter(|other| *other != osd)
-        .collect(alloc)?;
-    Ok(Seq::from_vec(others))
-}
-
-/// Adds the way in which all of the set are declared lost, where they are more than one.
-fn add_all_lost(alloc: Global, choices: &mut Vec<Choice>, set: &[OsdId]) -> Result<(), AllocError>
-    ensures { OnOk result (choices.new.items ≡ choices.old.items ++ all_lost set.now) }
-{
-    if set.len() <= 1 {
-        return Ok(());
-    }
-    choices.push(Choice {
-        starts: Seq::new(alloc),
-        losses: copy(alloc, set)?,
-    })?;
-    Ok(())
+        .collect(alloc)
 }

@@ -50,7 +50,7 @@ pub fn compact_script<R: Source, W: Sink>(
 {
     let script = read_whole(alloc, reader, SCRIPT_BOUNDS)?;
     let (text, counts) = compacted(alloc, format, script.as_slice())?;
-    pass_on(writer, text.as_slice())?;
+    pass_on(writer, text.as_slice()).or(Err(CompactFault::Write))?;
     Ok(counts)
 }
 

@@ -1,6 +1,10 @@
 //! Why a script was not compacted.
 
-use pgp_core::{WholeFault, WriteFault};
+ghost use Rattle.std.specs.Prelude.{◌≡◌};
+ghost use Rattle.pgp_core.specs.declared.whole.WholeFault.TheVariants.{Memory};
+ghost use Rattle.pgp_whole.specs.declared.compact_fault.CompactFault.TheVariants.{Script};
+
+use pgp_core::WholeFault;
 use std::alloc::AllocError;
 use thiserror::Error;
 
@@ -16,9 +20,6 @@ pub enum CompactFault {
 }
 
 impl From<WholeFault> for CompactFault {
-    ghost use Rattle.std.specs.Prelude.{◌≡◌};
-    ghost use Rattle.pgp_whole.specs.declared.compact_fault.CompactFault.TheVariants.{Script};
-
     ghost from_gives = { λ why fault. fault ≡ Script why };
 
     fn from(fault: WholeFault) -> CompactFault {
@@ -27,24 +28,9 @@ impl From<WholeFault> for CompactFault {
 }
 
 impl From<AllocError> for CompactFault {
-    ghost use Rattle.std.specs.Prelude.{◌≡◌};
-    ghost use Rattle.pgp_core.specs.declared.whole.WholeFault.TheVariants.{Memory};
-    ghost use Rattle.pgp_whole.specs.declared.compact_fault.CompactFault.TheVariants.{Script};
-
     ghost from_gives = { λ _ fault. fault ≡ Script Memory };
 
     fn from(_error: AllocError) -> CompactFault {
         CompactFault::Script(WholeFault::Memory)
-    }
-}
-
-impl From<WriteFault> for CompactFault {
-    ghost use Rattle.std.specs.Prelude.{◌≡◌};
-    ghost use Rattle.pgp_whole.specs.declared.compact_fault.CompactFault.TheVariants.{Write};
-
-    ghost from_gives = { λ _ fault. fault ≡ Write };
-
-    fn from(_fault: WriteFault) -> CompactFault {
-        CompactFault::Write
     }
 }

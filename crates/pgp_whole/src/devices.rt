@@ -1,78 +1,61 @@
 //! The devices for which groups wait, those that free most first.
 
-ghost use Rattle.std.specs.Prelude.{◌≡◌, map, filter, IfOk};
-ghost use Rattle.pgp_lists.specs.Ordered.{ascending};
-ghost use Rattle.pgp_whole.specs.Summary.{devices_of, device_numbers, is_waited_for, stands_first};
-ghost use Rattle.pgp_whole.specs.Ranks.{rank_of, rank_with, waits_in};
+ghost use Rattle.std.specs.Prelude.{◌≡◌, IfOk};
+ghost use Rattle.pgp_whole.specs.Summary.{devices_of, is_waited_for};
+ghost use Rattle.pgp_whole.specs.Sums.{waits_in};
 
-use super::group_counts::GroupCounts;
-use super::waits::Waits;
+use super::group_sums::GroupSums;
 use pgp_ids::{OsdId, Seq};
 use pgp_lists::insert_in_order;
 use std::alloc::{AllocError, Global};
 use std::cmp::Reverse;
 
-/// How many groups a device frees, blocks, and is awaited by, and its number: the device that frees most is the least.
-type Rank = (Reverse<usize>, (Reverse<usize>, (Reverse<usize>, OsdId)));
+/// A device, and how many groups wait for it, by why they do. The one that frees most groups alone stands first, then the one that
+/// blocks most, then the one from which most have yet to hear, and then the one of the lower number.
+#[derive(Clone, Copy, PartialEq, Eq, PartialOrd, Ord)]
+pub(crate) struct DeviceWaits {
+    /// How many are Down no more once it alone boots.
+    pub frees: Reverse<usize>,
+    /// How many are down and wait for it to come back.
+    pub blocks: Reverse<usize>,
+    /// How many wait to hear from it.
+    pub awaited: Reverse<usize>,
+    pub osd: OsdId,
+}
 
-/// The devices for which groups wait: those that free most groups alone first, then those that block most, then those from which
-/// most have yet to hear, and then in ascending order.
-pub(crate) fn devices_of(
-    alloc: Global,
-    frees: &GroupCounts,
-    blocks: &GroupCounts,
-    awaited: &GroupCounts,
-) -> Result<Seq<(OsdId, Waits)>, AllocError>
-    ensures { IfOk result (λ devices. devices ≡ devices_of (waits_in frees.now blocks.now awaited.now)) }
+impl DeviceWaits {
+    /// How many of the groups with these sums wait for the device.
+    fn of(osd: OsdId, sums: &GroupSums) -> Self
+        ensures { result ≡ waits_in sums.now osd }
+    {
+        DeviceWaits {
+            frees: Reverse(sums.frees.of(osd)),
+            blocks: Reverse(sums.blocks.of(osd)),
+            awaited: Reverse(sums.awaited.of(osd)),
+            osd,
+        }
+    }
+
+    /// Whether some group waits for it.
+    fn is_waited_for(&self) -> bool
+        ensures { result ≡ is_waited_for self.now }
+    {
+        self.blocks.0 > 0 || self.awaited.0 > 0
+    }
+}
+
+/// The devices for which some of the groups with these sums wait, in their order.
+pub(crate) fn devices_of(alloc: Global, sums: &GroupSums) -> Result<Seq<DeviceWaits>, AllocError>
+    ensures { IfOk result (λ devices. devices ≡ devices_of (waits_in sums.now)) }
 {
-    let ranks = ranks(alloc, frees, blocks, awaited)?;
     let mut devices = Vec::new(alloc);
-    for rank in ranks.as_slice() {
-        let osd = rank.1.1.1;
-        devices.push((osd, waits_in(frees, blocks, awaited, osd)))?;
-    }
-    Ok(Seq::from_vec(devices))
-}
-
-/// How many groups wait for the device.
-fn waits_in(frees: &GroupCounts, blocks: &GroupCounts, awaited: &GroupCounts, osd: OsdId) -> Waits
-    ensures { result ≡ waits_in frees.now blocks.now awaited.now osd }
-{
-    Waits {
-        frees: frees.of(osd),
-        blocks: blocks.of(osd),
-        awaited: awaited.of(osd),
-    }
-}
-
-/// The devices for which groups wait, in their order.
-fn ranks(
-    alloc: Global,
-    frees: &GroupCounts,
-    blocks: &GroupCounts,
-    awaited: &GroupCounts,
-) -> Result<Vec<Rank>, AllocError>
-    ensures { IfOk result (λ ranks. let waits = waits_in frees.now blocks.now awaited.now in
-        ranks.items ≡ map (rank_of waits) (ascending (stands_first waits) (filter (is_waited_for waits) device_numbers))) }
-{
-    let mut ranks = Vec::new(alloc);
     for number in (0..OsdId::MAX + 1).rev() {
         if let Some(osd) = OsdId::new(number) {
-            let waits = waits_in(frees, blocks, awaited, osd);
-            if waits.groups() > 0 {
-                insert_in_order(&mut ranks, rank_of(waits, osd))?;
+            let device = DeviceWaits::of(osd, sums);
+            if device.is_waited_for() {
+                insert_in_order(&mut devices, device)?;
             }
         }
     }
-    Ok(ranks)
-}
-
-/// What decides where a device stands for which so many groups wait.
-fn rank_of(waits: Waits, osd: OsdId) -> Rank
-    ensures { result ≡ rank_with waits osd }
-{
-    (
-        Reverse(waits.frees),
-        (Reverse(waits.blocks), (Reverse(waits.awaited), osd)),
-    )
+    Ok(Seq::from_vec(devices))
 }

@@ -1,6 +1,10 @@
 //! Why a script was not explained.
 
-use pgp_core::{WholeFault, WriteFault};
+ghost use Rattle.std.specs.Prelude.{◌≡◌};
+ghost use Rattle.pgp_core.specs.declared.whole.WholeFault.TheVariants.{Memory};
+ghost use Rattle.pgp_whole.specs.declared.explain_fault.ExplainFault.TheVariants.{Script};
+
+use pgp_core::WholeFault;
 use pgp_ids::PgId;
 use std::alloc::AllocError;
 use thiserror::Error;
@@ -20,9 +24,6 @@ pub enum ExplainFault {
 }
 
 impl From<WholeFault> for ExplainFault {
-    ghost use Rattle.std.specs.Prelude.{◌≡◌};
-    ghost use Rattle.pgp_whole.specs.declared.explain_fault.ExplainFault.TheVariants.{Script};
-
     ghost from_gives = { λ why fault. fault ≡ Script why };
 
     fn from(fault: WholeFault) -> ExplainFault {
@@ -31,24 +32,9 @@ impl From<WholeFault> for ExplainFault {
 }
 
 impl From<AllocError> for ExplainFault {
-    ghost use Rattle.std.specs.Prelude.{◌≡◌};
-    ghost use Rattle.pgp_core.specs.declared.whole.WholeFault.TheVariants.{Memory};
-    ghost use Rattle.pgp_whole.specs.declared.explain_fault.ExplainFault.TheVariants.{Script};
-
     ghost from_gives = { λ _ fault. fault ≡ Script Memory };
 
     fn from(_error: AllocError) -> ExplainFault {
         ExplainFault::Script(WholeFault::Memory)
-    }
-}
-
-impl From<WriteFault> for ExplainFault {
-    ghost use Rattle.std.specs.Prelude.{◌≡◌};
-    ghost use Rattle.pgp_whole.specs.declared.explain_fault.ExplainFault.TheVariants.{Write};
-
-    ghost from_gives = { λ _ fault. fault ≡ Write };
-
-    fn from(_fault: WriteFault) -> ExplainFault {
-        ExplainFault::Write
     }
 }

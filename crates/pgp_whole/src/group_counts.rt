@@ -1,6 +1,8 @@
 //! For each device a number of groups.
 
-ghost use Rattle.std.specs.Prelude.{◌≡◌, ℕ, ◌+◌, ◌<◌, List, length, slice_index, nat_eq, count_by, IfOk, if◌then◌else◌};
+ghost use Rattle.std.specs.Prelude.{◌≡◌, ℕ, ◌+◌, ◌<◌, List, [], length, slice_index, nat_eq, nat_lt, IfOk, if◌then◌else◌};
+ghost use Rattle.pgp_lists.specs.Ordered.{IsAscending};
+ghost use Rattle.pgp_reasons.specs.Smallest.{holds};
 ghost use Rattle.pgp_whole.specs.Summary.{counted};
 
 use pgp_ids::OsdId;
@@ -42,9 +44,10 @@ impl GroupCounts {
         self.counts[usize::from(osd.number())]
     }
 
-    /// One group more for each of these devices.
+    /// One group more for each of these devices, each of which is there once.
     pub fn add(&mut self, osds: &[OsdId])
-        ensures { (osd n : ℕ) → osd < 4096 → slice_index self.old osd ≡ counted n → slice_index self.new osd ≡ counted (n + count_by (nat_eq osd) osds.now) }
+        ensures { (osd n : ℕ) → IsAscending nat_lt osds.now → osd < 4096 → slice_index self.old osd ≡ counted n
+            → slice_index self.new osd ≡ counted (n + (if holds osds.now osd then 1 else 0)) }
     {
         for osd in osds {
             self.add_one(*osd);

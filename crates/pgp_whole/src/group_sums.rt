@@ -1,36 +1,38 @@
 //! What the views of groups tell of them together.
 
-ghost use Rattle.std.specs.Prelude.{◌≡◌, ℕ, ◌+◌, ◌<◌, List, [], ◌∷◌, ◌++◌, slice_index, filter as filtered, OnOk, IfOk, if◌then◌else◌};
-ghost use Rattle.std.specs.HashMap as hash;
+ghost use Rattle.std.specs.Prelude.{◌≡◌, ℕ, List, [], ◌∷◌, ◌++◌, ◌&&◌, ◌||◌, not, nat_eq, nat_lt, OnOk, IfOk};
+ghost use Rattle.std.specs.Ordering.{is_lt, nat_cmp};
 ghost use Rattle.pgp_ids.specs.declared.entry.Entry.{Entry};
-ghost use Rattle.pgp_ids.specs.declared.pg_id.PgId.{PgId as Group};
-ghost use Rattle.pgp_map.specs.Pools.{is_same_group};
+ghost use Rattle.pgp_lists.specs.Ordered.{IsAscending};
 ghost use Rattle.pgp_group.specs.GroupLog.{GroupLog};
+ghost use Rattle.pgp_group.specs.Heard.{has_member, heard};
 ghost use Rattle.pgp_group.specs.View.{view_of};
-ghost use Rattle.pgp_reasons.specs.GroupWays.{brings_back};
 ghost use Rattle.pgp_reasons.specs.Reasons.{IsViewed};
 ghost use Rattle.pgp_reasons.specs.Smallest.{holds};
-ghost use Rattle.pgp_whole.specs.Summary.{blockers, counted, freers};
-ghost use Rattle.pgp_whole.specs.Sums.{AreSums, first_where_waiting};
+ghost use Rattle.pgp_whole.specs.Hearing.{AreStamps};
+ghost use Rattle.pgp_whole.specs.Summary.{blockers, freers, has_verdict, unheard};
+ghost use Rattle.pgp_whole.specs.Sums.{AreSums};
 
 use super::group_counts::GroupCounts;
-use super::tally::Tally;
-use pgp_ids::{Epoch, OsdId, PgId, Verdict, View};
+use super::stamps::{Sender, Stamps};
+use pgp_group::is_counted;
+use pgp_ids::{Member, OsdId, PgId, Seq, Verdict, View};
+use pgp_lists::insert_in_order;
 use pgp_map::OsdMap;
 use pgp_reasons::unblocks;
 use std::alloc::{AllocError, Global};
-use std::collections::HashMap;
 
 /// What the views of groups tell of them together.
 #[derive(Drop)]
 pub(crate) struct GroupSums {
-    pub tally: Tally,
+    /// Of each group.
+    pub verdicts: Seq<Verdict>,
     /// How many groups each device blocks.
     pub blocks: GroupCounts,
     /// How many groups each device frees alone.
     pub frees: GroupCounts,
-    /// The first epoch of the current interval of each group that waits to hear from members.
-    pub waiting: HashMap<PgId, Epoch>,
+    /// How many groups have yet to hear from each device.
+    pub awaited: GroupCounts,
 }
 
 impl GroupSums {
@@ -39,67 +41,59 @@ impl GroupSums {
         ensures { IfOk result (AreSums []) }
     {
         Ok(GroupSums {
-            tally: Tally::new(),
+            verdicts: Seq::new(alloc),
             blocks: GroupCounts::new(alloc)?,
             frees: GroupCounts::new(alloc)?,
-            waiting: HashMap::new(alloc),
+            awaited: GroupCounts::new(alloc)?,
         })
     }
 
-    /// Takes in the group of a log, of which this is the view, by the last map.
+    /// Takes in the group of a log, of which this is the view, by the last map and the stamps of the log's infos.
     pub fn add(
         &mut self,
         alloc: Global,
         map: &OsdMap,
         pg: &PgId,
         view: &View,
+        stamps: &Stamps,
     ) -> Result<(), AllocError>
         ensures { OnOk result ((groups : List GroupLog) (log : List Entry) (g : GroupLog) → AreSums groups self.old
-            → g.pg ≡ pg.now → view.now ≡ view_of g → IsViewed log map.now pg.now view.now g → AreSums (groups ++ g ∷ []) self.new) }
+            → IsViewed log map.now pg.now view.now g → AreStamps log stamps.now → AreSums (groups ++ g ∷ []) self.new) }
     {
-        add_waiting(&mut self.waiting, pg, view)?;
-        add_freers(alloc, &mut self.frees, map, pg, view)?;
-        add_blockers(&mut self.blocks, view);
-        self.tally.count(view.verdict);
+        let freers = freers_of(alloc, map, pg, view)?;
+        let unheard = unheard_of(alloc, map, pg, view, stamps)?;
+        self.verdicts.push(view.verdict)?;
+        self.blocks.add(blockers_of(view));
+        self.frees.add(freers.as_slice());
+        self.awaited.add(unheard.as_slice());
         Ok(())
     }
 }
 
-/// Counts the group for each device that keeps it down.
-fn add_blockers(counts: &mut GroupCounts, view: &View)
-    ensures { (g : GroupLog) (osd n : ℕ) → view.now ≡ view_of g → osd < 4096 → slice_index counts.old osd ≡ counted n
-        → slice_index counts.new osd ≡ counted (n + (if holds (blockers g) osd then 1 else 0)) }
+/// Whether the group has this verdict.
+fn has_verdict(view: &View, verdict: Verdict) -> bool
+    ensures { (g : GroupLog) → view.now ≡ view_of g → result ≡ has_verdict verdict g }
 {
-    if view.verdict == Verdict::Down {
-        counts.add(view.blocked_by.as_slice());
+    view.verdict == verdict
+}
+
+/// The devices that keep the group down.
+fn blockers_of(view: &View) -> &[OsdId]
+    ensures { (g : GroupLog) → view.now ≡ view_of g → result.now ≡ blockers g }
+{
+    if has_verdict(view, Verdict::Down) {
+        view.blocked_by.as_slice()
+    } else {
+        &[]
     }
 }
 
-/// Counts the group for each device that alone ends that it is down.
-fn add_freers(
-    alloc: Global,
-    counts: &mut GroupCounts,
-    map: &OsdMap,
-    pg: &PgId,
-    view: &View,
-) -> Result<(), AllocError>
-    ensures { OnOk result ((log : List Entry) (g : GroupLog) (osd n : ℕ) → view.now ≡ view_of g → IsViewed log map.now pg.now view.now g
-        → osd < 4096 → slice_index counts.old osd ≡ counted n → slice_index counts.new osd ≡ counted (n + (if holds (freers g) osd then 1 else 0))) }
-{
-    if view.verdict == Verdict::Down {
-        let osds = freers_of(alloc, map, pg, view)?;
-        counts.add(osds.as_slice());
-    }
-    Ok(())
-}
-
-/// Those of the devices that block the group each of which alone ends that, once it boots.
+/// Those of them each of which alone ends that, once it boots.
 fn freers_of(alloc: Global, map: &OsdMap, pg: &PgId, view: &View) -> Result<Vec<OsdId>, AllocError>
-    ensures { IfOk result (λ osds. (log : List Entry) (g : GroupLog) → IsViewed log map.now pg.now view.now g
-        → osds.items ≡ filtered (λ osd. brings_back g (osd ∷ [])) view.now.blocked_by) }
+    ensures { IfOk result (λ osds. (log : List Entry) (g : GroupLog) → IsViewed log map.now pg.now view.now g → osds.items ≡ freers g) }
 {
     let mut osds = Vec::new(alloc);
-    for osd in view.blocked_by.as_slice() {
+    for osd in blockers_of(view) {
         if unblocks(map, *pg, view, &[*osd], &[]) {
             osds.push(*osd)?;
         }
@@ -107,14 +101,54 @@ fn freers_of(alloc: Global, map: &OsdMap, pg: &PgId, view: &View) -> Result<Vec<
     Ok(osds)
 }
 
-/// Keeps the first epoch of the group's current interval, where it waits to hear from members.
-fn add_waiting(waiting: &mut HashMap<PgId, Epoch>, pg: &PgId, view: &View) -> Result<(), AllocError>
-    ensures { OnOk result ((groups : List GroupLog) (g : GroupLog) → g.pg ≡ pg.now → view.now ≡ view_of g
-        → ((q : Group) → hash.get is_same_group waiting.old q ≡ first_where_waiting groups q)
-        → (q : Group) → hash.get is_same_group waiting.new q ≡ first_where_waiting (groups ++ g ∷ []) q) }
+/// The devices from which the group has yet to hear, in ascending order, each once, where it waits for that.
+fn unheard_of(
+    alloc: Global,
+    map: &OsdMap,
+    pg: &PgId,
+    view: &View,
+    stamps: &Stamps,
+) -> Result<Vec<OsdId>, AllocError>
+    ensures ascends { IfOk result (λ osds. IsAscending nat_lt osds.items) }
+    ensures holds { IfOk result (λ osds. (log : List Entry) (g : GroupLog) (osd : ℕ) → IsViewed log map.now pg.now view.now g → AreStamps log stamps.now
+        → holds osds.items osd ≡ holds (unheard g) osd) }
 {
-    if view.verdict == Verdict::Waiting {
-        waiting.insert(*pg, view.first)?;
+    let mut osds = Vec::new(alloc);
+    if !has_verdict(view, Verdict::Waiting) {
+        return Ok(osds);
     }
-    Ok(())
+    for member in view.probe.as_slice() {
+        put_unheard(&mut osds, map, pg, view, member, stamps)?;
+    }
+    Ok(osds)
+}
+
+/// Puts the member's device among these, where the group hasn't heard the member.
+fn put_unheard(
+    osds: &mut Vec<OsdId>,
+    map: &OsdMap,
+    pg: &PgId,
+    view: &View,
+    member: &Member,
+    stamps: &Stamps,
+) -> Result<(), AllocError>
+    requires { IsAscending (λ a b. is_lt (nat_cmp a b)) osds.old.items }
+    ensures ascends { OnOk result (IsAscending (λ a b. is_lt (nat_cmp a b)) osds.new.items) }
+    ensures holds { OnOk result ((log : List Entry) (g : GroupLog) (osd : ℕ) → IsViewed log map.now pg.now view.now g → AreStamps log stamps.now
+        → holds osds.new.items osd ≡ (holds osds.old.items osd || (not (has_member member.now (heard g)) && nat_eq osd member.now.osd))) }
+{
+    if has_heard(map, pg, view, member, stamps) {
+        return Ok(());
+    }
+    insert_in_order(osds, member.osd)
+}
+
+/// Whether the group has heard the member.
+fn has_heard(map: &OsdMap, pg: &PgId, view: &View, member: &Member, stamps: &Stamps) -> bool
+    ensures { (log : List Entry) (g : GroupLog) → IsViewed log map.now pg.now view.now g → AreStamps log stamps.now → result ≡ has_member member.now (heard g) }
+{
+    match stamps.get(&Sender::new(pg, member)) {
+        Some(stamp) => is_counted(map, view.first, *member, *stamp),
+        None => false,
+    }
 }

@@ -40,7 +40,7 @@ pub fn join_script<R: Source, W: Sink>(
 {
     let script = read_whole(alloc, reader, SCRIPT_BOUNDS)?;
     let (text, counts) = joined(alloc, script.as_slice())?;
-    pass_on(writer, text.as_slice())?;
+    pass_on(writer, text.as_slice()).or(Err(CompactFault::Write))?;
     Ok(counts)
 }
 

@@ -11,7 +11,6 @@
 #![tactic(auto)]
 
 mod advice;
-mod all_groups;
 mod choice;
 mod compact;
 mod compact_fault;
@@ -22,20 +21,16 @@ mod fault;
 mod group_counts;
 mod group_sums;
 mod groups;
-mod heard_of;
 mod join;
 pub mod laws;
 mod pools;
 mod read;
+mod stamps;
 mod subcommand;
 mod summary;
 mod summary_json;
-mod summary_text;
 mod summary_words;
-mod tally;
 mod text;
-mod unheard;
-mod waits;
 
 pub use compact::{Compaction, compact_script};
 pub use compact_fault::CompactFault;

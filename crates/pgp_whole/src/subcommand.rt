@@ -1,25 +1,22 @@
 //! The subcommand, over any reader and writers.
-ghost use Rattle.std.specs.Prelude.{◌≡◌, ◌≢◌, ◌⊎◌, true, Some, None, IfOk, IfErr, OnOk, string_bytes};
+ghost use Rattle.std.specs.Prelude.{◌≡◌, ◌≢◌, ◌⊎◌, true, Some, IfOk, IfErr, OnOk, string_bytes};
 ghost use Rattle.std.specs.Io.KnownBytes.{Appends};
 ghost use Rattle.pgp_ids.specs.declared.pg_id.PgId.{PgId as Group};
 ghost use Rattle.pgp_core.specs.Output.{FrontWent};
 ghost use Rattle.pgp_core.specs.Run.{script_bounds};
 ghost use Rattle.pgp_core.specs.Whole.{GivesTooMuch};
-ghost use Rattle.pgp_whole.specs.Explanation.{HasNoGroup, IsExplainedInPart, IsExplained, IsGroupText, SaysAsked, StopsText, group_text as text_of_advice, question};
+ghost use Rattle.pgp_whole.specs.Explanation.{HasNoGroup, IsExplainedInPart, IsExplained, IsGroupText, SaysAsked, StopsText, question};
 ghost use Rattle.pgp_whole.specs.Reading.{IsRefusedInPart};
-ghost use Rattle.pgp_whole.specs.Summary.{summary_of};
-ghost use Rattle.pgp_whole.specs.SummaryText.{summary_text as text_of_all};
 
 use super::advice::advice_of;
 use super::explain_fault::ExplainFault;
 use super::read::read_log;
 use super::summary::summary_of;
-use super::summary_text::text_of_summary;
 use pgp_core::{Log, Sink, Source, WholeFault, pass_on};
-use pgp_group_words::{Advice, EpochOffset, put_json, put_words};
+use pgp_group_words::EpochOffset;
 use pgp_ids::PgId;
 use pgp_lines::Format;
-use std::alloc::{AllocError, Global};
+use std::alloc::Global;
 use std::io::Write;
 
 /// Reads a script whole, with lines up to this version, and says at its end why the group has its verdict and what it waits for; without a group, how many
@@ -71,7 +68,7 @@ fn write_text<W: Sink>(writer: &mut W, text: &str) -> Result<(), ExplainFault>
     ensures err { IfErr result (λ fault. (fault ≡ ExplainFault.Write) × ((W.state writer.new).failed ≡ true)
         × FrontWent (W.state writer.old).contents (W.state writer.new).contents text.now) }
 {
-    Ok(pass_on(writer, text.as_bytes())?)
+    pass_on(writer, text.as_bytes()).or(Err(ExplainFault::Write))
 }
 
 /// What the log says of the group, or of all groups where none is asked for.
@@ -88,7 +85,14 @@ fn asked_text(
 {
     match pg {
         Some(pg) => group_text(alloc, log, pg, losses, json, offset),
-        None => summary_text(alloc, log, json, offset),
+        None => {
+            let summary = summary_of(alloc, log)?;
+            if json {
+                Ok(summary.json(alloc, offset)?)
+            } else {
+                Ok(summary.words(alloc, offset)?)
+            }
+        }
     }
 }
 
@@ -107,37 +111,9 @@ fn group_text(
     let Some(advice) = advice_of(alloc, log, &pg, losses, offset)? else {
         return Err(ExplainFault::UnknownGroup(pg));
     };
-    Ok(text_of_group(alloc, &advice, json, offset)?)
-}
-
-/// What is told of a group, in words or as JSON.
-fn text_of_group(
-    alloc: Global,
-    advice: &Advice,
-    json: bool,
-    offset: EpochOffset,
-) -> Result<String, AllocError>
-    ensures { IfOk result (λ text. string_bytes text ≡ text_of_advice json advice.now offset) }
-{
-    let mut text = String::new(alloc);
     if json {
-        put_json(alloc, advice, offset, &mut text)?;
+        Ok(advice.json(alloc, offset)?)
     } else {
-        put_words(alloc, advice, offset, &mut text)?;
+        Ok(advice.words(alloc, offset)?)
     }
-    Ok(text)
-}
-
-/// What is told of all groups.
-fn summary_text(
-    alloc: Global,
-    log: &mut Log,
-    json: bool,
-    offset: EpochOffset,
-) -> Result<String, ExplainFault>
-    ensures ok { IfOk result (λ text. string_bytes text ≡ text_of_all json (summary_of log.old) offset) }
-    ensures err { IfErr result (λ fault. StopsText fault log.old None) }
-{
-    let summary = summary_of(alloc, log)?;
-    Ok(text_of_summary(alloc, &summary, json, offset)?)
 }

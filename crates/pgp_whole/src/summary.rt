@@ -1,61 +1,96 @@
 //! What groups say together: how many have which verdict, and for which devices they wait.
 
-ghost use Rattle.std.specs.Prelude.{◌≡◌, ◌++◌, [], ◌∷◌, List, Some, filter_map, IfOk, OnOk};
+ghost use Rattle.std.specs.Prelude.{◌≡◌, ◌++◌, [], ◌∷◌, List, filter_map, IfOk, OnOk};
 ghost use Rattle.pgp_ids.specs.declared.pg_id.PgId.{PgId as Group};
-ghost use Rattle.pgp_group.specs.GroupLog.{GroupLog, group_in};
-ghost use Rattle.pgp_whole.specs.Hearing.{AreAllHeard, IsHeard};
-ghost use Rattle.pgp_whole.specs.Summary.{summary_of};
-ghost use Rattle.pgp_whole.specs.Sums.{AreAwaited, AreSums};
+ghost use Rattle.pgp_map.specs.MapOf.{Says};
+ghost use Rattle.pgp_group.specs.GroupLog.{group_in};
+ghost use Rattle.pgp_whole.specs.Hearing.{AreStamps};
+ghost use Rattle.pgp_whole.specs.Summary.{all_groups, groups_of_pool, summary_of, verdict_count};
+ghost use Rattle.pgp_whole.specs.Sums.{AreSums};
 
-use super::all_groups::all_groups;
-use super::devices::devices_of;
-use super::group_counts::GroupCounts;
+use super::devices::{DeviceWaits, devices_of};
 use super::group_sums::GroupSums;
-use super::heard_of::{Hearing, heard_of};
-use super::tally::Tally;
-use super::unheard::add_unheard;
-use super::waits::Waits;
+use super::pools::PoolFacts;
+use super::stamps::{Stamps, stamps_of};
 use pgp_core::Log;
-use pgp_ids::{Epoch, OsdId, PgId, Seq};
+use pgp_ids::{Epoch, PgId, PoolId, Seq, Verdict};
+use pgp_map::OsdMap;
 use std::alloc::{AllocError, Global};
-use std::collections::{HashMap, HashSet};
 
 /// What the groups of a log say together.
 #[derive(Drop)]
-pub struct Summary {
-    pub(crate) epoch: Epoch,
-    pub(crate) tally: Tally,
+pub(crate) struct Summary {
+    pub epoch: Epoch,
+    /// Of each group.
+    pub verdicts: Seq<Verdict>,
     /// The devices for which groups wait: the one that frees most groups alone first.
-    pub(crate) devices: Seq<(OsdId, Waits)>,
+    pub devices: Seq<DeviceWaits>,
+}
+
+impl Summary {
+    /// How many groups have this verdict.
+    pub fn count(&self, verdict: Verdict) -> usize
+        ensures { result ≡ verdict_count self.now.verdicts verdict }
+    {
+        let verdicts = self.verdicts.as_slice();
+        verdicts.iter().filter(|other| **other == verdict).count()
+    }
 }
 
 /// What the log says of all groups of its map together.
 ///
-/// It asks for each group once, and again for those that wait to hear members, after one walk over the log for whom they heard.
-pub fn summary_of(alloc: Global, log: &mut Log) -> Result<Summary, AllocError>
+/// It asks for each group once, after one walk over the log for the stamps of infos.
+pub(crate) fn summary_of(alloc: Global, log: &mut Log) -> Result<Summary, AllocError>
     ensures value { IfOk result (λ summary. summary ≡ summary_of log.old) }
     ensures same { log.new ≡ log.old }
 {
     let groups = all_groups(alloc, log.map())?;
-    let sums = sums_of(alloc, log, groups.as_slice())?;
-    let heard = heard_of(alloc, log.map(), log.entries(), &sums.waiting)?;
-    let awaited = awaited_of(alloc, log, groups.as_slice(), &sums.waiting, &heard)?;
-    let devices = devices_of(alloc, &sums.frees, &sums.blocks, &awaited)?;
+    let stamps = stamps_of(alloc, log.entries())?;
+    let sums = sums_of(alloc, log, groups.as_slice(), &stamps)?;
+    let devices = devices_of(alloc, &sums)?;
     Ok(Summary {
         epoch: log.map().epoch(),
-        tally: sums.tally,
+        verdicts: sums.verdicts,
         devices,
     })
 }
 
-/// What the views of these groups tell of them together.
-fn sums_of(alloc: Global, log: &mut Log, groups: &[PgId]) -> Result<GroupSums, AllocError>
-    ensures value { IfOk result (AreSums (filter_map (group_in log.old) groups.now)) }
+/// The groups of all pools of the map, in ascending order.
+fn all_groups(alloc: Global, map: &OsdMap) -> Result<Vec<PgId>, AllocError>
+    ensures { IfOk result (λ groups. Says map.now (λ incs. groups.items ≡ all_groups incs)) }
+{
+    let mut groups = Vec::new(alloc);
+    for below in 0..u8::MAX {
+        if let Some(pool) = PoolId::new(below + 1) {
+            put_groups(map, pool, &mut groups)?;
+        }
+    }
+    Ok(groups)
+}
+
+/// Puts the groups of a pool behind `groups`.
+fn put_groups(map: &OsdMap, pool: PoolId, groups: &mut Vec<PgId>) -> Result<(), AllocError>
+    ensures { OnOk result (Says map.now (λ incs. groups.new.items ≡ groups.old.items ++ groups_of_pool incs pool)) }
+{
+    for pg in 0..PoolFacts::of(map, pool).groups {
+        groups.push(PgId { pool, pg })?;
+    }
+    Ok(())
+}
+
+/// What the views of these groups tell of them together, by the stamps of the log's infos.
+fn sums_of(
+    alloc: Global,
+    log: &mut Log,
+    groups: &[PgId],
+    stamps: &Stamps,
+) -> Result<GroupSums, AllocError>
+    ensures value { IfOk result (λ sums. AreStamps log.old stamps.now → AreSums (filter_map (group_in log.old) groups.now) sums) }
     ensures same { log.new ≡ log.old }
 {
     let mut sums = GroupSums::new(alloc)?;
     for pg in groups {
-        add_group(alloc, log, pg, &mut sums)?;
+        add_group(alloc, log, pg, stamps, &mut sums)?;
     }
     Ok(sums)
 }
@@ -65,55 +100,15 @@ fn add_group(
     alloc: Global,
     log: &mut Log,
     pg: &PgId,
+    stamps: &Stamps,
     sums: &mut GroupSums,
 ) -> Result<(), AllocError>
-    ensures more { OnOk result ((groups : List Group) → AreSums (filter_map (group_in log.old) groups) sums.old
+    ensures more { OnOk result ((groups : List Group) → AreStamps log.old stamps.now → AreSums (filter_map (group_in log.old) groups) sums.old
         → AreSums (filter_map (group_in log.old) (groups ++ pg.now ∷ [])) sums.new) }
     ensures same { log.new ≡ log.old }
 {
     match log.ask(*pg)? {
-        Some(view) => sums.add(alloc, log.map(), pg, &view),
-        None => Ok(()),
-    }
-}
-
-/// For how many of these groups each device has yet to be heard.
-fn awaited_of(
-    alloc: Global,
-    log: &mut Log,
-    groups: &[PgId],
-    waiting: &HashMap<PgId, Epoch>,
-    heard: &HashSet<Hearing>,
-) -> Result<GroupCounts, AllocError>
-    ensures value { IfOk result (λ counts. AreAllHeard (filter_map (group_in log.old) groups.now) waiting.now heard.now
-        → AreAwaited (filter_map (group_in log.old) groups.now) counts) }
-    ensures same { log.new ≡ log.old }
-{
-    let mut counts = GroupCounts::new(alloc)?;
-    for pg in groups {
-        count_group(alloc, log, pg, waiting, heard, &mut counts)?;
-    }
-    Ok(counts)
-}
-
-/// Counts the group, where it waits, for each device from which it has yet to hear.
-fn count_group(
-    alloc: Global,
-    log: &mut Log,
-    pg: &PgId,
-    waiting: &HashMap<PgId, Epoch>,
-    heard: &HashSet<Hearing>,
-    counts: &mut GroupCounts,
-) -> Result<(), AllocError>
-    ensures more { OnOk result ((groups : List Group) → ((g : GroupLog) → group_in log.old pg.now ≡ Some g → IsHeard g waiting.now heard.now)
-        → AreAwaited (filter_map (group_in log.old) groups) counts.old → AreAwaited (filter_map (group_in log.old) (groups ++ pg.now ∷ [])) counts.new) }
-    ensures same { log.new ≡ log.old }
-{
-    if !waiting.contains_key(pg) {
-        return Ok(());
-    }
-    match log.ask(*pg)? {
-        Some(view) => add_unheard(alloc, counts, pg, &view, heard),
+        Some(view) => sums.add(alloc, log.map(), pg, &view, stamps),
         None => Ok(()),
     }
 }

@@ -1,16 +1,14 @@
 //! A summary as JSON.
 
-ghost use Rattle.std.specs.Prelude.{◌≡◌, ◌++◌, ◌∷◌, [], codes, flat_map, IfOk, OnOk, string_bytes};
-ghost use Rattle.pgp_text.specs.Json.{list_data};
-ghost use Rattle.pgp_text.specs.Written.{fields_tokens, tokens_of};
-ghost use Rattle.pgp_whole.specs.SummaryText.{device_data, summary_data, summary_json, tally_data, verdict_field, tally_fields};
+ghost use Rattle.std.specs.Prelude.{◌≡◌, ◌++◌, flat_map, IfOk, OnOk, string_bytes};
+ghost use Rattle.pgp_text.specs.Written.{fields_tokens};
+ghost use Rattle.pgp_whole.specs.SummaryText.{device_data, summary_json, tally_data, verdict_field};
 
+use super::devices::DeviceWaits;
 use super::summary::Summary;
-use super::tally::Tally;
-use super::waits::Waits;
 use json::Writer;
 use pgp_group_words::{EpochOffset, into_line};
-use pgp_ids::{OsdId, Verdict};
+use pgp_ids::Verdict;
 use pgp_text::{Json, write_field};
 use std::alloc::{AllocError, Global};
 
@@ -26,90 +24,26 @@ const VERDICTS: [Verdict; 8] = [
     Verdict::Waiting,
 ];
 
-/// What there is to say of a summary: one object in one line, which ends in a line feed, with the keys
-/// of each object in ascending byte order.
-#[tactic(auto, unfolding(crate::specs::SummaryText::summary_json))]
-pub(crate) fn json_of(
-    alloc: Global,
-    summary: &Summary,
-    offset: EpochOffset,
-) -> Result<String, AllocError>
-    ensures { IfOk result (λ text. string_bytes text ≡ summary_json summary.now offset) }
-{
-    let mut out = Writer::new(Vec::new(alloc));
-    write_summary(&mut out, offset, summary)?;
-    into_line(out)
-}
-
-#[tactic(auto, using(pgp_text::proofs::Tokens::token_steps))]
-fn write_summary(out: &mut Writer, offset: EpochOffset, summary: &Summary) -> Result<(), AllocError>
-    ensures ok { OnOk result
-        (out.new.tokens ≡ out.old.tokens ++ tokens_of (summary_data offset summary.now)) }
-    ensures before { out.new.before ≡ out.old.before }
-{
-    out.begin_object()?;
-    write_devices(out, offset, summary.devices.as_slice())?;
-    write_field(out, offset, "epoch", &summary.epoch)?;
-    write_field(out, offset, "groups", &summary.tally.groups())?;
-    write_field(out, offset, "verdicts", &summary.tally)?;
-    out.end_object()
-}
-
-/// The devices for which groups wait.
-#[tactic(auto, unfolding(pgp_text::specs::Written::fields_tokens))]
-fn write_devices(
-    out: &mut Writer,
-    offset: EpochOffset,
-    devices: &[(OsdId, Waits)],
-) -> Result<(), AllocError>
-    ensures ok { OnOk result (out.new.tokens
-        ≡ out.old.tokens ++ fields_tokens ((codes "devices", list_data device_data devices.now) ∷ [])) }
-    ensures before { out.new.before ≡ out.old.before }
-{
-    out.key("devices")?;
-    write_each_device(out, offset, devices)
-}
-
-/// Writes the devices as a list, in order.
-fn write_each_device(
-    out: &mut Writer,
-    offset: EpochOffset,
-    devices: &[(OsdId, Waits)],
-) -> Result<(), AllocError>
-    ensures ok { OnOk result
-        (out.new.tokens ≡ out.old.tokens ++ tokens_of (list_data device_data devices.now)) }
-    ensures before { out.new.before ≡ out.old.before }
-{
-    out.begin_array()?;
-    for device in devices {
-        write_device(out, offset, device)?;
+impl Summary {
+    /// What there is to say of all groups: one object in one line, which ends in a line feed, with the keys of each object in
+    /// ascending byte order.
+    pub fn json(&self, alloc: Global, offset: EpochOffset) -> Result<String, AllocError>
+        ensures { IfOk result (λ text. string_bytes text ≡ summary_json self.now offset) }
+    {
+        let mut out = Writer::new(Vec::new(alloc));
+        out.begin_object()?;
+        write_field(&mut out, offset, "devices", &self.devices)?;
+        write_field(&mut out, offset, "epoch", &self.epoch)?;
+        write_field(&mut out, offset, "groups", &self.verdicts.len())?;
+        write_field(&mut out, offset, "verdicts", self)?;
+        out.end_object()?;
+        into_line(out)
     }
-    out.end_array()
-}
-
-/// For how many groups the device is waited.
-#[tactic(auto, using(pgp_text::proofs::Tokens::token_steps))]
-fn write_device(
-    out: &mut Writer,
-    offset: EpochOffset,
-    device: &(OsdId, Waits),
-) -> Result<(), AllocError>
-    ensures ok { OnOk result
-        (out.new.tokens ≡ out.old.tokens ++ tokens_of (device_data device.now)) }
-    ensures before { out.new.before ≡ out.old.before }
-{
-    let (osd, waits) = device;
-    out.begin_object()?;
-    write_field(out, offset, "awaited", &waits.awaited)?;
-    write_field(out, offset, "blocks", &waits.blocks)?;
-    write_field(out, offset, "frees", &waits.frees)?;
-    write_field(out, offset, "osd", osd)?;
-    out.end_object()
 }
 
 /// How many groups have which verdict; one that no group has is left out.
-impl Json<EpochOffset> for Tally {
-    ghost value = { λ _ tally. tally_data tally };
+impl Json<EpochOffset> for Summary {
+    ghost value = { λ _ summary. tally_data summary.verdicts };
 
     #[tactic(auto, using(pgp_text::proofs::Tokens::token_steps), unfolding(crate::specs::SummaryText::tally_fields))]
     fn write(&self, out: &mut Writer, offset: EpochOffset) -> Result<(), AllocError> {
@@ -123,15 +57,15 @@ impl Json<EpochOffset> for Tally {
 fn write_verdicts(
     out: &mut Writer,
     offset: EpochOffset,
-    tally: &Tally,
+    summary: &Summary,
     verdicts: &[Verdict],
 ) -> Result<(), AllocError>
-    ensures ok { OnOk result
-        (out.new.tokens ≡ out.old.tokens ++ fields_tokens (flat_map (verdict_field tally.now) verdicts.now)) }
+    ensures ok { OnOk result (out.new.tokens
+        ≡ out.old.tokens ++ fields_tokens (flat_map (verdict_field summary.now.verdicts) verdicts.now)) }
     ensures before { out.new.before ≡ out.old.before }
 {
     for verdict in verdicts {
-        write_verdict(out, offset, tally, *verdict)?;
+        write_verdict(out, offset, summary, *verdict)?;
     }
     Ok(())
 }
@@ -141,16 +75,30 @@ fn write_verdicts(
 fn write_verdict(
     out: &mut Writer,
     offset: EpochOffset,
-    tally: &Tally,
+    summary: &Summary,
     verdict: Verdict,
 ) -> Result<(), AllocError>
     ensures ok { OnOk result
-        (out.new.tokens ≡ out.old.tokens ++ fields_tokens (verdict_field tally.now verdict)) }
+        (out.new.tokens ≡ out.old.tokens ++ fields_tokens (verdict_field summary.now.verdicts verdict)) }
     ensures before { out.new.before ≡ out.old.before }
 {
-    let count = tally.of(verdict);
+    let count = summary.count(verdict);
     if count == 0 {
         return Ok(());
     }
     write_field(out, offset, verdict.name(), &count)
+}
+
+/// For how many groups the device is waited.
+impl Json<EpochOffset> for DeviceWaits {
+    ghost value = { λ _ device. device_data device };
+
+    fn write(&self, out: &mut Writer, offset: EpochOffset) -> Result<(), AllocError> {
+        out.begin_object()?;
+        write_field(out, offset, "awaited", &self.awaited.0)?;
+        write_field(out, offset, "blocks", &self.blocks.0)?;
+        write_field(out, offset, "frees", &self.frees.0)?;
+        write_field(out, offset, "osd", &self.osd)?;
+        out.end_object()
+    }
 }

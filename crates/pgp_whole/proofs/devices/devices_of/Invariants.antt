@@ -1,7 +1,7 @@
-use Rattle.std.proofs.Common.{◌≡◌, map, take}
-use Rattle.pgp_whole.specs.Ranks.{Rank, waits_in}
+use Rattle.std.proofs.Common.{◌≡◌}
+use Rattle.pgp_whole.specs.Sums.{waits_in}
+use Rattle.pgp_whole.proofs.SummaryDevices.{from_number}
 use Rattle.pgp_whole.proofs.devices.devices_of.Given as goal
 
-abbrev pub invariant-loop-rank : goal.invariant-loop-rank
-invariant-loop-rank l =
-    l.devices.items ≡ map (λ (r : Rank). (r.1.1.1, waits_in l.frees l.blocks l.awaited r.1.1.1)) (take l.rank-index l.rank-items)
+abbrev pub invariant-loop-number : goal.invariant-loop-number
+invariant-loop-number l = l.devices.items ≡ from_number (waits_in l.sums) l.number

@@ -1,11 +1,12 @@
 use Rattle.std.proofs.Common.{◌≡◌, take}
 use Rattle.std.specs.List.{filter_map}
 use Rattle.pgp_group.specs.GroupLog.{group_in}
+use Rattle.pgp_whole.specs.Hearing.{AreStamps}
 use Rattle.pgp_whole.specs.Sums.{AreSums}
 use Rattle.pgp_whole.proofs.summary.sums_of.Given as goal
 
 abbrev pub invariant-loop-pg : goal.invariant-loop-pg
 invariant-loop-pg l = record {
   same : l.log ≡ l.fn.log;
-  sums : AreSums (filter_map (group_in l.fn.log) (take l.pg-index l.groups)) l.sums;
+  sums : AreStamps l.fn.log l.stamps → AreSums (filter_map (group_in l.fn.log) (take l.pg-index l.groups)) l.sums;
 }

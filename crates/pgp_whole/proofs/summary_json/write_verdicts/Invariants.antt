@@ -5,5 +5,5 @@ use Rattle.pgp_whole.proofs.summary_json.write_verdicts.Given as goal
 
 abbrev pub invariant-loop-verdict : goal.invariant-loop-verdict
 invariant-loop-verdict l =
-    (l.out.tokens ≡ l.initial.out.tokens ++ fields_tokens (flat_map (verdict_field l.tally) (take l.verdict-index l.verdicts)))
+    (l.out.tokens ≡ l.initial.out.tokens ++ fields_tokens (flat_map (verdict_field l.summary.verdicts) (take l.verdict-index l.verdicts)))
     × (l.out.before ≡ l.initial.out.before)
