@@ -1,14 +1,16 @@
 -- What the program did to its reader and writer, by how it ended.
-use Rattle.std.specs.Prelude.{◌≡◌, ◌⊎◌, List, ℕ, Bool, true, Option}
+use Rattle.std.specs.Prelude.{◌≡◌, ◌⊎◌, List, ℕ, Bool, false, true, Result, IfErr, OnOk}
 use Rattle.std.specs.Io.KnownBytes.{Appends}
 use Rattle.pgp_whole.specs.Compaction.{IsCompacted, IsCompactedInPart}
 use Rattle.pgp_whole.specs.Joining.{IsJoined, IsJoinedInPart}
 use Rattle.pgp_whole.specs.declared.compact.Compaction.{Compaction}
 use Rattle.pgp_lines.specs.declared.command.format.Format.{Format}
-use Rattle.pgp_core.specs.Account.{Account, NoCallFailed}
+use Rattle.pgp_core.specs.Account.{Account, NoCallFailed, account}
 use Rattle.pgp_core.specs.Output.{FrontWent}
 use Rattle.pgp_core.specs.Run.{AllAnswered, Stopped, script_bounds}
+use Rattle.pgp_core.specs.Streams.{SinkState, SourceState}
 use Rattle.pgp_core.specs.declared.fault.ScriptFault.{ScriptFault}
+use Rattle.pgp_core.specs.declared.fault.ScriptFault.TheVariants.{Gone}
 use Rattle.pgp_whole.specs.Explanation.{Question, IsExplained, IsExplainedInPart}
 use Rattle.pgp_cli.specs.declared.ending.Ending.{Ending}
 use Rattle.pgp_cli.specs.declared.ending.Ending.TheVariants.{Done, Usage, Fault}
@@ -26,37 +28,35 @@ pub record RunIsStopped (before after : Account) : Type 0 where
   pub fault : ScriptFault
   pub stopped : Stopped alone format script_bounds before after fault
 
+-- A run over an engine answered the script to its end, and what it wrote was passed on; or a fault stopped it; or there is no engine
+-- with all of its workers, and nothing was read or written.
+pub record HasRun {T R W : Type 0} (source : R → SourceState) (sink : W → SinkState) (format : Format) (result : Result T ScriptFault)
+    (reader : R) (writer : W) (read : R) (written : W) : Type 0 where
+  pub ok : OnOk result (AllAnswered false format script_bounds (account (source reader) (sink writer)) (account (source read) (sink written)))
+  pub err : IfErr result (λ fault. ((fault ≡ Gone) × (read ≡ reader) × (written ≡ writer))
+      ⊎ Stopped false format script_bounds (account (source reader) (sink writer)) (account (source read) (sink written)) fault)
+  pub passed_on : OnOk result ((sink written).passed_on ≡ true)
+
 -- a script was read to its end, the writer got what its log says of a group or of all, and no call failed
 pub record ExplainIsDone (before after : Account) : Type 0 where
   pub asked : Question
   pub explained : IsExplained asked before.remaining after.remaining before.contents after.contents
   pub quiet : NoCallFailed before after
 
--- the writer got the lines that remain of the reader's script, and no call failed
+-- the writer got the lines that remain of the reader's script, or lines that stand for those, where incrementals are joined, and no
+-- call failed
 pub record CompactIsDone (before after : Account) : Type 0 where
-  pub format : Format
   pub counts : Compaction
-  pub compacted : IsCompacted format counts before.remaining after.remaining before.contents after.contents
+  pub compacted : ((format : Format) × IsCompacted format counts before.remaining after.remaining before.contents after.contents)
+      ⊎ IsJoined counts before.remaining after.remaining before.contents after.contents
   pub quiet : NoCallFailed before after
-
--- the writer got lines that stand for those, where incrementals are joined, and no call failed
-pub record JoinIsDone (before after : Account) : Type 0 where
-  pub counts : Compaction
-  pub joined : IsJoined counts before.remaining after.remaining before.contents after.contents
-  pub quiet : NoCallFailed before after
-
--- what help or a message about the words did to the writer, by how that ended: a text of help was written; nothing was; or a
--- first part of help, where a write failed
-abbrev pub HasShown : Ending → (old new : Option (List ℕ)) → (failed_before failed_after : Bool) → Type 0
-HasShown Done old new failed_before failed_after = ((text : List ℕ) × Appends old new text) × (failed_after ≡ failed_before)
-HasShown Usage old new failed_before failed_after = (new ≡ old) × (failed_after ≡ failed_before)
-HasShown Fault old new failed_before failed_after = ((text : List ℕ) × FrontWent old new text) × (failed_after ≡ true)
 
 -- a text of help was written, nothing was read, and no call failed
 pub record HelpIsShown (before after : Account) : Type 0 where
-  pub shown : HasShown Done before.contents after.contents before.write_failed after.write_failed
+  pub text : List ℕ
+  pub went : Appends before.contents after.contents text
   pub unread : after.remaining ≡ before.remaining
-  pub quiet : after.read_failed ≡ before.read_failed
+  pub quiet : NoCallFailed before after
 
 -- a write failed: a first part went out of what a log says of a group or of all, of the lines that remain of a script or stand for these,
 -- or of help
@@ -71,6 +71,6 @@ pub record IsCut (before after : Account) : Type 0 where
 -- it came, nothing that was written, or a part that a failed write cut off.
 abbrev pub HasEnded : Ending → (before after : Account) → Type 0
 HasEnded Done before after =
-    RunIsDone before after ⊎ (ExplainIsDone before after ⊎ (CompactIsDone before after ⊎ (JoinIsDone before after ⊎ HelpIsShown before after)))
+    RunIsDone before after ⊎ (ExplainIsDone before after ⊎ (CompactIsDone before after ⊎ HelpIsShown before after))
 HasEnded Usage before after = after ≡ before
 HasEnded Fault before after = RunIsStopped before after ⊎ ((after.contents ≡ before.contents) ⊎ IsCut before after)

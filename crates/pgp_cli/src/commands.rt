@@ -107,17 +107,14 @@ pub fn parse<'a>(alloc: Global, words: &'a [String]) -> Result<ArgMatches<'a>, E
 
 /// The program's command line.
 fn pgpeer<'a>(alloc: Global) -> Result<Command<'a>, AllocError> {
-    let run = run(alloc)?;
-    let explain = explain(alloc)?;
-    let compact = compact(alloc)?;
     Command::new(alloc, "pgpeer")
         .version("0.2.0")
         .about("Says where objects lie and whether placement groups may serve, from lines of JSON")
         .after_help(HELP)
         .subcommand_required(true)
-        .subcommand(run)?
-        .subcommand(explain)?
-        .subcommand(compact)
+        .subcommand(run(alloc)?)?
+        .subcommand(explain(alloc)?)?
+        .subcommand(compact(alloc)?)
 }
 
 /// `run [--shards N] [--workers N] [--format N]`
@@ -132,38 +129,26 @@ fn run<'a>(alloc: Global) -> Result<Command<'a>, AllocError> {
 
 /// `explain [PG] [--losses] [--json] [--epoch-offset N] [--format N]`
 fn explain<'a>(alloc: Global) -> Result<Command<'a>, AllocError> {
-    let json = Arg::new(alloc, "json")
-        .long("json")
-        .action(ArgAction::SetTrue)
-        .help(JSON_HELP);
-    let losses = Arg::new(alloc, "losses")
-        .long("losses")
-        .action(ArgAction::SetTrue)
-        .help(LOSSES_HELP);
     Command::new(alloc, "explain")
         .about(
             "Reads a script from standard input and says why a group doesn't serve, and what it waits for",
         )
         .after_help(EXPLAIN_HELP)
         .arg(Arg::new(alloc, "pg").value_name("PG").help(GROUP_HELP))?
-        .arg(losses)?
-        .arg(json)?
+        .arg(flag(alloc, "losses", LOSSES_HELP))?
+        .arg(flag(alloc, "json", JSON_HELP))?
         .arg(count(alloc, "epoch-offset", OFFSET_HELP))?
         .arg(count(alloc, "format", FORMAT_HELP))
 }
 
 /// `compact [--join] [--format N]`
 fn compact<'a>(alloc: Global) -> Result<Command<'a>, AllocError> {
-    let join = Arg::new(alloc, "join")
-        .long("join")
-        .action(ArgAction::SetTrue)
-        .help(JOIN_HELP);
     Command::new(alloc, "compact")
         .about(
             "Reads a script from standard input and writes it without reports that no answer needs",
         )
         .after_help(COMPACT_HELP)
-        .arg(join)?
+        .arg(flag(alloc, "join", JOIN_HELP))?
         .arg(count(alloc, "format", FORMAT_HELP))
 }
 
@@ -172,21 +157,19 @@ fn count<'a>(alloc: Global, name: &'a str, help: &'a str) -> Arg<'a> {
     Arg::new(alloc, name).long(name).value_name("N").help(help)
 }
 
-/// An error of `pgpeer run`, with its usage.
-pub fn run_error(alloc: Global, kind: ErrorKind, message: &str) -> Result<Error, AllocError> {
-    run(alloc)?.bin_name("pgpeer run")?.error(kind, message)
+/// An option that takes nothing.
+fn flag<'a>(alloc: Global, name: &'a str, help: &'a str) -> Arg<'a> {
+    Arg::new(alloc, name)
+        .long(name)
+        .action(ArgAction::SetTrue)
+        .help(help)
 }
 
-/// An error of `pgpeer explain`, with its usage.
-pub fn explain_error(alloc: Global, kind: ErrorKind, message: &str) -> Result<Error, AllocError> {
-    explain(alloc)?
-        .bin_name("pgpeer explain")?
-        .error(kind, message)
-}
-
-/// An error of `pgpeer compact`, with its usage.
-pub fn compact_error(alloc: Global, kind: ErrorKind, message: &str) -> Result<Error, AllocError> {
-    compact(alloc)?
-        .bin_name("pgpeer compact")?
-        .error(kind, message)
+/// An error of this kind in the words after a subcommand, with that one's usage.
+pub fn wrong(alloc: Global, name: &str, kind: ErrorKind, why: &str) -> Result<Error, AllocError> {
+    match name {
+        "explain" => explain(alloc)?.bin_name("pgpeer explain")?.error(kind, why),
+        "compact" => compact(alloc)?.bin_name("pgpeer compact")?.error(kind, why),
+        _ => run(alloc)?.bin_name("pgpeer run")?.error(kind, why),
+    }
 }

@@ -1,11 +1,10 @@
 //! How the program ends, and its exit statuses.
 
-/// The script was answered, explained or compacted to its end, or help was shown.
+/// The status of [`Ending::Done`].
 pub const DONE: u8 = 0;
-/// The command line is wrong, or there was no memory to read it or for the text of help.
+/// The status of [`Ending::Usage`].
 pub const USAGE: u8 = 2;
-/// A read or a write failed, the script is too large, there is no engine to answer it, no such group to explain, or no memory
-/// to explain or compact it.
+/// The status of [`Ending::Fault`].
 pub const FAULT: u8 = 3;
 
 /// How the program ended.

@@ -5,6 +5,7 @@
 //! don't show how many shards and workers there are.
 ghost use Rattle.std.specs.Prelude.{◌≡◌, ◌+◌, ◌⊎◌, ◌≤◌, [], false, true, length, All, IfErr, OnOk};
 ghost use Rattle.pgp_core.specs.Account.{account};
+ghost use Rattle.pgp_cli.specs.Status.{HasRun};
 ghost use Rattle.pgp_core.specs.Run.{AllAnswered, Stopped, script_bounds};
 ghost use Rattle.pgp_feed.specs.Feeds.{told_of};
 ghost use Rattle.pgp_feed.specs.Receipts.{entries_of, feed_of};
@@ -85,30 +86,18 @@ fn run_over<J: Naming + Send + Sync, R: Source, W: Sink, T: Threads + Wait + Syn
     requires each { All (λ tap. last_of tap ≡ told_of made.0) made.1.items }
     requires shards { (1 ≤ shards) × (shards ≤ 64) }
     requires workers { (1 ≤ workers) × (workers ≤ 64) }
-    ensures ok { OnOk result (AllAnswered false format script_bounds (account (R.state reader.old) (W.state writer.old))
-        (account (R.state reader.new) (W.state writer.new))) }
-    ensures err { IfErr result (λ fault. ((fault ≡ ScriptFault.Gone) × (reader.new ≡ reader.old) × (writer.new ≡ writer.old))
-        ⊎ Stopped false format script_bounds (account (R.state reader.old) (W.state writer.old))
-        (account (R.state reader.new) (W.state writer.new)) fault) }
-    ensures passed_on { OnOk result ((W.state writer.new).passed_on ≡ true) }
+    ensures { HasRun R.state W.state format result reader.old writer.old reader.new writer.new }
 {
     let (feed, taps) = made;
     let Ok((engine, mut clients)) = Engine::<J>::make(rt, alloc, feed, taps, shards, workers) else {
         return Err(ScriptFault::Gone);
     };
     let client = clients.pop().unwrap();
-    let ended = run_among_workers(rt, alloc, format, &engine, client, reader, writer, workers);
-    let outcome = ended.outcome;
+    let (_, _, outcome) = run_among_workers(
+        rt, alloc, format, &engine, client, reader, writer, workers,
+    );
     engine.give_up(rt);
     outcome
-}
-
-/// How a run ended, with what was lent to it.
-#[derive(Drop)]
-struct RunEnd<'r, 'w, R, W> {
-    reader: &'r mut R,
-    writer: &'w mut W,
-    outcome: Result<(), ScriptFault>,
 }
 
 /// Starts the workers, answers the script, closes the log, and waits for the workers to end.
@@ -124,46 +113,28 @@ fn run_among_workers<'r, 'w, J: Naming + Send + Sync, R: Source, W: Sink, T: Thr
     reader: &'r mut R,
     writer: &'w mut W,
     workers: usize,
-) -> RunEnd<'r, 'w, R, W>
+) -> (&'r mut R, &'w mut W, Result<(), ScriptFault>)
     requires { workers ≤ engine.now.workers }
-    ensures reader { result.reader.ghost_name ≡ reader.entry.ghost_name }
-    ensures writer { result.writer.ghost_name ≡ writer.entry.ghost_name }
-    ensures ok { OnOk result.outcome (AllAnswered false format script_bounds (account (R.state reader.entry.now) (W.state writer.entry.now))
-        (account (R.state result.reader.now) (W.state result.writer.now))) }
-    ensures err { IfErr result.outcome (λ fault. ((fault ≡ ScriptFault.Gone) × (result.reader.now ≡ reader.entry.now) × (result.writer.now ≡ writer.entry.now))
-        ⊎ Stopped false format script_bounds (account (R.state reader.entry.now) (W.state writer.entry.now))
-        (account (R.state result.reader.now) (W.state result.writer.now)) fault) }
-    ensures passed_on { OnOk result.outcome ((W.state result.writer.now).passed_on ≡ true) }
+    ensures reader { result.0.ghost_name ≡ reader.entry.ghost_name }
+    ensures writer { result.1.ghost_name ≡ writer.entry.ghost_name }
+    ensures run { HasRun R.state W.state format result.2 reader.entry.now writer.entry.now result.0.now result.1.now }
 {
     thread::scope(
         thread::scope_env(),
         rt,
-        move |scope| -> RunEnd<R, W>
+        move |scope| -> (&mut R, &mut W, Result<(), ScriptFault>)
             requires { workers ≤ engine.now.workers }
-            ensures reader { result.reader.ghost_name ≡ reader.entry.ghost_name }
-            ensures writer { result.writer.ghost_name ≡ writer.entry.ghost_name }
-            ensures ok { OnOk result.outcome (AllAnswered false format script_bounds (account (R.state reader.entry.now) (W.state writer.entry.now))
-                (account (R.state result.reader.now) (W.state result.writer.now))) }
-            ensures err { IfErr result.outcome (λ fault. ((fault ≡ ScriptFault.Gone) × (result.reader.now ≡ reader.entry.now) × (result.writer.now ≡ writer.entry.now))
-                ⊎ Stopped false format script_bounds (account (R.state reader.entry.now) (W.state writer.entry.now))
-                (account (R.state result.reader.now) (W.state result.writer.now)) fault) }
-            ensures passed_on { OnOk result.outcome ((W.state result.writer.now).passed_on ≡ true) }
+            ensures reader { result.0.ghost_name ≡ reader.entry.ghost_name }
+            ensures writer { result.1.ghost_name ≡ writer.entry.ghost_name }
+            ensures run { HasRun R.state W.state format result.2 reader.entry.now writer.entry.now result.0.now result.1.now }
         {
             if !all_started(rt, scope, engine, workers) {
                 close(rt, engine);
-                return RunEnd {
-                    reader,
-                    writer,
-                    outcome: Err(ScriptFault::Gone),
-                };
+                return (reader, writer, Err(ScriptFault::Gone));
             }
             let outcome = answer_by(rt, alloc, format, engine, client, reader, writer);
             close(rt, engine);
-            RunEnd {
-                reader,
-                writer,
-                outcome,
-            }
+            (reader, writer, outcome)
         },
     )
 }
@@ -178,11 +149,7 @@ fn answer_by<J: Naming, R: Source, W: Sink, T: Wait>(
     reader: &mut R,
     writer: &mut W,
 ) -> Result<(), ScriptFault>
-    ensures ok { OnOk result (AllAnswered false format script_bounds (account (R.state reader.old) (W.state writer.old))
-        (account (R.state reader.new) (W.state writer.new))) }
-    ensures err { IfErr result (Stopped false format script_bounds (account (R.state reader.old) (W.state writer.old))
-        (account (R.state reader.new) (W.state writer.new))) }
-    ensures passed_on { OnOk result ((W.state writer.new).passed_on ≡ true) }
+    ensures { HasRun R.state W.state format result reader.old writer.old reader.new writer.new }
 {
     let mut answerer = EngineAnswerer::new(rt, engine, client);
     answer_script(alloc, format, &mut answerer, reader, writer, SCRIPT_BOUNDS)

@@ -1,8 +1,8 @@
 //! What the words of a command line ask for.
-ghost use Rattle.std.specs.Prelude.{◌≡◌, ◌≤◌, IfSome, None, Some};
+ghost use Rattle.std.specs.Prelude.{◌≡◌, ◌≤◌, IfOk, None, Ok};
 ghost use Rattle.pgp_lines.specs.declared.command.format.Format.TheVariants.{Two};
 
-use super::commands::{compact_error, explain_error, parse, run_error};
+use super::commands::{parse, wrong};
 use clap::error::ErrorKind;
 use clap::{ArgMatches, Error};
 use pgp_ids::{PgId, PoolId};
@@ -25,9 +25,6 @@ the script comes from standard input: pgpeer explain 1.a < FILE";
 
 /// Why the number of `--epoch-offset` is refused.
 const WRONG_OFFSET: &str = "--epoch-offset takes a number from 0 to 4294967295";
-
-/// Why the number of `--format` is refused.
-const WRONG_FORMAT: &str = "--format takes 2 or 3";
 
 /// Why `--join` is refused.
 const WRONG_JOIN: &str = "--join writes lines of version 3, so it goes with --format 3";
@@ -91,9 +88,7 @@ pub enum Request {
 pub fn options(alloc: Global, words: &[String]) -> Result<RunOptions, Error> {
     match read_request(alloc, words)? {
         Request::Run(options) => Ok(options),
-        Request::Explain(_) | Request::Compact(_) => {
-            Err(run_error(alloc, ErrorKind::InvalidSubcommand, NO_RUN)?)
-        }
+        _ => Err(wrong(alloc, "run", ErrorKind::InvalidSubcommand, NO_RUN)?),
     }
 }
 
@@ -103,124 +98,93 @@ pub fn options(alloc: Global, words: &[String]) -> Result<RunOptions, Error> {
 /// A request for help is an error too, and its text belongs on the standard output.
 pub fn read_request(alloc: Global, words: &[String]) -> Result<Request, Error> {
     let matches = parse(alloc, words)?;
-    match matches.subcommand() {
-        Some(("explain", explain)) => Ok(Request::Explain(explain_options(alloc, explain)?)),
-        Some(("compact", compact)) => Ok(Request::Compact(compact_options(alloc, compact)?)),
-        Some((_, run)) => Ok(Request::Run(run_options(alloc, run)?)),
-        None => Err(run_error(alloc, ErrorKind::MissingSubcommand, NO_RUN)?),
+    let (name, request) = match matches.subcommand() {
+        Some(("explain", given)) => ("explain", read_explain(given)),
+        Some(("compact", given)) => ("compact", read_compact(given)),
+        Some((_, given)) => ("run", read_run(given)),
+        None => ("run", Err((ErrorKind::MissingSubcommand, NO_RUN))),
+    };
+    match request {
+        Ok(request) => Ok(request),
+        Err((kind, why)) => Err(wrong(alloc, name, kind, why)?),
     }
 }
 
+/// Of which kind it is that words are refused, and why they are.
+type Refusal = (ErrorKind, &'static str);
+
 /// What the words after `run` ask for.
-fn run_options(alloc: Global, run: &ArgMatches) -> Result<RunOptions, Error> {
-    let shards = count(run.get_str("shards"), 1);
-    let workers = count(run.get_str("workers"), 0);
-    let Some(format) = format(run.get_str("format")) else {
-        return Err(run_error(alloc, ErrorKind::ValueValidation, WRONG_FORMAT)?);
-    };
-    match (shards, workers) {
-        (Some(shards), Some(workers)) => Ok(RunOptions {
-            shards,
-            workers,
-            format,
-        }),
-        _ => Err(run_error(alloc, ErrorKind::ValueValidation, WRONG_COUNT)?),
-    }
+fn read_run(given: &ArgMatches) -> Result<Request, Refusal> {
+    let format = format(given.get_str("format"))?;
+    let shards = count(given.get_str("shards"), 1)?;
+    let workers = count(given.get_str("workers"), 0)?;
+    Ok(Request::Run(RunOptions {
+        shards,
+        workers,
+        format,
+    }))
 }
 
 /// The number that an option of `run` gives, from `least` to 64, which is `least` where the words lack the option.
-fn count(text: Option<&str>, least: u8) -> Option<u8>
+fn count(text: Option<&str>, least: u8) -> Result<u8, Refusal>
     requires { least ≤ 64 }
-    ensures { IfSome result (λ n. (least ≤ n) × (n ≤ 64)) }
+    ensures { IfOk result (λ n. (least ≤ n) × (n ≤ 64)) }
 {
-    let Some(text) = text else {
-        return Some(least);
-    };
-    let count = text.parse::<u8>().ok()?;
-    if least <= count && count <= MOST {
-        Some(count)
-    } else {
-        None
+    match text.map_or(Ok(least), |text| text.parse::<u8>()) {
+        Ok(count) if least <= count && count <= MOST => Ok(count),
+        _ => Err((ErrorKind::ValueValidation, WRONG_COUNT)),
     }
 }
 
 /// The version that `--format` names, or 2.
-fn format(text: Option<&str>) -> Option<Format>
-    ensures { text.entry ≡ None → result ≡ Some Two }
+fn format(text: Option<&str>) -> Result<Format, Refusal>
+    ensures { text.entry ≡ None → result ≡ Ok Two }
 {
-    let Some(text) = text else {
-        return Some(Format::Two);
-    };
-    match text.parse::<u8>().ok()? {
-        2 => Some(Format::Two),
-        3 => Some(Format::Three),
-        _ => None,
+    match text.map_or(Ok(2), |text| text.parse::<u8>()) {
+        Ok(2) => Ok(Format::Two),
+        Ok(3) => Ok(Format::Three),
+        _ => Err((ErrorKind::ValueValidation, "--format takes 2 or 3")),
     }
 }
 
-/// What the words after `compact` ask for.
-fn compact_options(alloc: Global, compact: &ArgMatches) -> Result<CompactOptions, Error> {
-    let join = compact.get_flag("join");
-    match (format(compact.get_str("format")), join) {
-        (Some(Format::Two), true) if compact.get_str("format").is_none() => Ok(CompactOptions {
-            format: Format::Three,
-            join,
-        }),
-        (Some(Format::Two), true) => {
-            Err(compact_error(alloc, ErrorKind::ArgumentConflict, WRONG_JOIN)?)
-        }
-        (Some(format), join) => Ok(CompactOptions { format, join }),
-        (None, _) => Err(compact_error(alloc, ErrorKind::ValueValidation, WRONG_FORMAT)?),
-    }
+/// What the words after `compact` ask for. With `--join` and no version that is 3.
+fn read_compact(given: &ArgMatches) -> Result<Request, Refusal> {
+    let join = given.get_flag("join");
+    let text = given.get_str("format");
+    let format = match format(text)? {
+        Format::Two if join && text.is_none() => Format::Three,
+        Format::Two if join => return Err((ErrorKind::ArgumentConflict, WRONG_JOIN)),
+        format => format,
+    };
+    Ok(Request::Compact(CompactOptions { format, join }))
 }
 
 /// What the words after `explain` ask for.
-fn explain_options(alloc: Global, explain: &ArgMatches) -> Result<ExplainOptions, Error> {
-    let Some(epoch_offset) = epoch_offset(explain.get_str("epoch-offset")) else {
-        return Err(explain_error(alloc, ErrorKind::ValueValidation, WRONG_OFFSET)?);
+fn read_explain(given: &ArgMatches) -> Result<Request, Refusal> {
+    let epoch_offset = given
+        .get_str("epoch-offset")
+        .map_or(Ok(0), |text| text.parse::<u32>())
+        .or(Err((ErrorKind::ValueValidation, WRONG_OFFSET)))?;
+    let pg = match given.get_str("pg") {
+        Some(text) => Some(group(text).ok_or((ErrorKind::ValueValidation, WRONG_GROUP))?),
+        None => None,
     };
-    let Some(pg) = group(explain.get_str("pg")) else {
-        return Err(explain_error(alloc, ErrorKind::ValueValidation, WRONG_GROUP)?);
-    };
-    let Some(format) = format(explain.get_str("format")) else {
-        return Err(explain_error(alloc, ErrorKind::ValueValidation, WRONG_FORMAT)?);
-    };
-    Ok(ExplainOptions {
+    Ok(Request::Explain(ExplainOptions {
         pg,
-        losses: explain.get_flag("losses"),
-        json: explain.get_flag("json"),
+        losses: given.get_flag("losses"),
+        json: given.get_flag("json"),
         epoch_offset,
-        format,
-    })
-}
-
-/// The number that `--epoch-offset` gives, or 0.
-fn epoch_offset(text: Option<&str>) -> Option<u32> {
-    match text {
-        Some(text) => text.parse::<u32>().ok(),
-        None => Some(0),
-    }
-}
-
-/// The group that is asked for, or all groups where the word is left out.
-fn group(text: Option<&str>) -> Option<Option<PgId>> {
-    match text {
-        Some(text) => group_in(text).map(Some),
-        None => Some(None),
-    }
+        format: format(given.get_str("format"))?,
+    }))
 }
 
 /// The group that the text names as POOL.SEED, each number without a sign; leading zeros are taken.
-fn group_in(text: &str) -> Option<PgId> {
+fn group(text: &str) -> Option<PgId> {
     if text.contains('+') {
         return None;
     }
     let (pool, seed) = text.split_once('.')?;
     let pool = PoolId::new(pool.parse::<u8>().ok()?)?;
     let pg = u16::from_str_radix(seed, 16).ok()?;
-    if pg <= MOST_SEED {
-        Some(PgId { pool, pg })
-    } else {
-        None
-    }
+    (pg <= MOST_SEED).then_some(PgId { pool, pg })
 }

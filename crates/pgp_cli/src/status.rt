@@ -1,16 +1,16 @@
 //! What the program does, over any reader and writers, and how it ends.
 
-ghost use Rattle.std.specs.Prelude.{◌≡◌, true};
+ghost use Rattle.std.specs.Prelude.{◌≡◌, true, OnErr, OnOk};
 ghost use Rattle.pgp_cli.specs.Status.{HasEnded};
 ghost use Rattle.pgp_core.specs.Account.{account};
 
 use super::ending::Ending;
 use super::engine_run::run_engine;
 use super::fault::Fault;
-use super::request::{CompactOptions, ExplainOptions, Request, RunOptions, read_request};
+use super::request::{Request, read_request};
 use super::streams::Counted;
 use super::tell::{help_or_usage, report_fault, report_left_out};
-use pgp_core::{ScriptFault, Sink, run_script};
+use pgp_core::{Sink, run_script};
 use pgp_whole::{compact_script, explain, join_script};
 use std::alloc::Global;
 use std::io::Write;
@@ -36,130 +36,59 @@ pub fn status_of<R: Counted, W: Sink, E: Write, T: Threads + Wait + Sync>(
     ensures passed_on { result ≡ Ending.Done → (W.state writer.new).passed_on ≡ true }
 {
     match read_request(alloc, words) {
-        Ok(Request::Run(options)) => run(rt, alloc, options, reader, writer, errors),
-        Ok(Request::Explain(options)) => explain_script(alloc, &options, reader, writer, errors),
-        Ok(Request::Compact(options)) if options.join => join(alloc, reader, writer, errors),
-        Ok(Request::Compact(options)) => compact(alloc, options, reader, writer, errors),
-        Err(error) => help_or_usage(alloc, &error, words, writer, errors),
+        Ok(request) => match carry_out(rt, alloc, request, reader, writer, errors) {
+            Ok(()) => Ending::Done,
+            Err(fault) => report_fault(fault, reader, errors),
+        },
+        Err(error) => help_or_usage(alloc, &error, words, reader, writer, errors),
     }
 }
 
-/// Answers the script, without workers on this thread and with them over an engine, and says how that ended.
-fn run<R: Counted, W: Sink, E: Write, T: Threads + Wait + Sync>(
+/// Does what is asked for to its end, unless there is a fault.
+fn carry_out<R: Counted, W: Sink, E: Write, T: Threads + Wait + Sync>(
     rt: &T,
     alloc: Global,
-    options: RunOptions,
+    request: Request,
     reader: &mut R,
     writer: &mut W,
     errors: &mut E,
-) -> Ending
-    ensures ended { HasEnded result
+) -> Result<(), Fault>
+    ensures done { OnOk result (HasEnded Ending.Done
         (account (R.state reader.old) (W.state writer.old))
-        (account (R.state reader.new) (W.state writer.new)) }
-    ensures passed_on { result ≡ Ending.Done → (W.state writer.new).passed_on ≡ true }
+        (account (R.state reader.new) (W.state writer.new))) }
+    ensures fault { OnErr result (HasEnded Ending.Fault
+        (account (R.state reader.old) (W.state writer.old))
+        (account (R.state reader.new) (W.state writer.new))) }
+    ensures passed_on { OnOk result ((W.state writer.new).passed_on ≡ true) }
 {
-    let RunOptions {
-        shards,
-        workers,
-        format,
-    } = options;
-    let outcome = if workers == 0 {
-        run_script(alloc, format, reader, writer)
-    } else {
-        run_engine(
-            rt,
+    match request {
+        Request::Run(options) => {
+            let (shards, workers) = (usize::from(options.shards), usize::from(options.workers));
+            if workers == 0 {
+                return Ok(run_script(alloc, options.format, reader, writer)?);
+            }
+            Ok(run_engine(rt, alloc, options.format, reader, writer, shards, workers)?)
+        }
+        Request::Explain(options) => Ok(explain(
             alloc,
-            format,
+            options.format,
             reader,
             writer,
-            usize::from(shards),
-            usize::from(workers),
-        )
-    };
-    match outcome {
-        Ok(()) => Ending::Done,
-        Err(why) => report_fault(script_fault(why, reader), errors),
-    }
-}
-
-/// The fault that stopped a script.
-fn script_fault<R: Counted>(why: ScriptFault, reader: &R) -> Fault {
-    match why {
-        ScriptFault::Read => Fault::of_reader(reader),
-        ScriptFault::Write => Fault::Write,
-        ScriptFault::Gone => Fault::NoEngine,
-    }
-}
-
-/// Explains what the script says of a group, or of all groups.
-fn explain_script<R: Counted, W: Sink, E: Write>(
-    alloc: Global,
-    options: &ExplainOptions,
-    reader: &mut R,
-    writer: &mut W,
-    errors: &mut E,
-) -> Ending
-    ensures ended { HasEnded result
-        (account (R.state reader.old) (W.state writer.old))
-        (account (R.state reader.new) (W.state writer.new)) }
-    ensures passed_on { result ≡ Ending.Done → (W.state writer.new).passed_on ≡ true }
-{
-    let outcome = explain(
-        alloc,
-        options.format,
-        reader,
-        writer,
-        errors,
-        options.pg,
-        options.losses,
-        options.json,
-        options.epoch_offset,
-    );
-    match outcome {
-        Ok(()) => Ending::Done,
-        Err(why) => report_fault(Fault::of_explain(why, reader), errors),
-    }
-}
-
-/// Writes the lines of the script that remain, and reports how many entries were left out.
-fn compact<R: Counted, W: Sink, E: Write>(
-    alloc: Global,
-    options: CompactOptions,
-    reader: &mut R,
-    writer: &mut W,
-    errors: &mut E,
-) -> Ending
-    ensures ended { HasEnded result
-        (account (R.state reader.old) (W.state writer.old))
-        (account (R.state reader.new) (W.state writer.new)) }
-    ensures passed_on { result ≡ Ending.Done → (W.state writer.new).passed_on ≡ true }
-{
-    match compact_script(alloc, options.format, reader, writer) {
-        Ok(counts) => {
-            report_left_out(&counts, errors);
-            Ending::Done
+            errors,
+            options.pg,
+            options.losses,
+            options.json,
+            options.epoch_offset,
+        )?),
+        Request::Compact(options) if options.join => {
+            let joined = join_script(alloc, reader, writer)?;
+            report_left_out(&joined, errors);
+            Ok(())
         }
-        Err(why) => report_fault(Fault::of_compact(why, reader), errors),
-    }
-}
-
-/// Writes lines that stand for those that remain, where incrementals are joined, and reports how many entries were left out.
-fn join<R: Counted, W: Sink, E: Write>(
-    alloc: Global,
-    reader: &mut R,
-    writer: &mut W,
-    errors: &mut E,
-) -> Ending
-    ensures ended { HasEnded result
-        (account (R.state reader.old) (W.state writer.old))
-        (account (R.state reader.new) (W.state writer.new)) }
-    ensures passed_on { result ≡ Ending.Done → (W.state writer.new).passed_on ≡ true }
-{
-    match join_script(alloc, reader, writer) {
-        Ok(counts) => {
-            report_left_out(&counts, errors);
-            Ending::Done
+        Request::Compact(options) => {
+            let compacted = compact_script(alloc, options.format, reader, writer)?;
+            report_left_out(&compacted, errors);
+            Ok(())
         }
-        Err(why) => report_fault(Fault::of_compact(why, reader), errors),
     }
 }

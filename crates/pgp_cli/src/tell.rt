@@ -1,77 +1,62 @@
 //! Help, and the messages where the program does not do what it is asked for.
 ghost use Rattle.std.specs.Prelude.{◌≡◌, true};
-ghost use Rattle.pgp_cli.specs.Status.{HasShown};
+ghost use Rattle.pgp_cli.specs.Status.{HasEnded};
+ghost use Rattle.pgp_core.specs.Account.{account};
 
 use super::ending::Ending;
 use super::fault::Fault;
+use super::streams::Counted;
 use clap::Error;
 use clap::error::ErrorKind;
-use pgp_core::{Sink, pass_on};
+use pgp_core::{Bounds, SCRIPT_BOUNDS, Sink, pass_on};
 use pgp_whole::Compaction;
 use std::alloc::{AllocError, Global};
 use std::io;
 use std::io::Write;
 
 /// Shows help if that was asked for, and else says what is wrong with the command line.
-pub fn help_or_usage<W: Sink, E: Write>(
+pub fn help_or_usage<R: Counted, W: Sink, E: Write>(
     alloc: Global,
     error: &Error,
     words: &[String],
+    reader: &R,
     writer: &mut W,
     errors: &mut E,
 ) -> Ending
-    ensures shown { HasShown result (W.state writer.old).contents (W.state writer.new).contents (W.state writer.old).failed (W.state writer.new).failed }
+    ensures ended { HasEnded result
+        (account (R.state reader.now) (W.state writer.old))
+        (account (R.state reader.now) (W.state writer.new)) }
     ensures passed_on { result ≡ Ending.Done → (W.state writer.new).passed_on ≡ true }
 {
     if error.use_stderr() {
         return usage(error, words, errors);
     }
-    match format!(in alloc; "{error}") {
-        Ok(help) => show_help(help.as_str(), writer, errors),
-        Err(_) => usage(&Error::from(AllocError), words, errors),
+    let Ok(help) = format!(in alloc; "{error}") else {
+        return usage(&Error::from(AllocError), words, errors);
+    };
+    match pass_on(writer, help.as_bytes()) {
+        Ok(()) => Ending::Done,
+        Err(_) => report_fault(Fault::Write, reader, errors),
     }
 }
 
-/// Says what is wrong with the command line, and where a script comes from if a superfluous word may be the name of one; or
-/// that there was no memory to read it.
+/// Says what is wrong with the command line, or that there was no memory to read it. Where a superfluous word after the subcommand is
+/// no option, it may be the name of a script, so it says where a script comes from.
 fn usage<E: Write>(error: &Error, words: &[String], errors: &mut E) -> Ending
     ensures { result ≡ Ending.Usage }
 {
     let _ = write!(errors, "{error}");
-    if error.kind() == ErrorKind::UnknownArgument {
-        tell_source(words, errors);
-    }
-    Ending::Usage
-}
-
-/// Says where a script comes from, if a word that is no option follows the subcommand.
-fn tell_source<E: Write>(words: &[String], errors: &mut E) {
-    let Some(name) = words.get(1) else {
-        return;
-    };
-    if !matches!(name.as_str(), "run" | "explain" | "compact") {
-        return;
-    }
-    if words[2..]
-        .iter()
-        .any(|word| !word.as_str().starts_with('-'))
+    if error.kind() == ErrorKind::UnknownArgument
+        && let [_, name, others @ ..] = words
+        && matches!(name.as_str(), "run" | "explain" | "compact")
+        && others.iter().any(|word| !word.as_str().starts_with('-'))
     {
         let _ = writeln!(
             errors,
             "\npgpeer {name} reads standard input: pgpeer {name} < FILE"
         );
     }
-}
-
-/// Shows the text of help.
-fn show_help<W: Sink, E: Write>(help: &str, writer: &mut W, errors: &mut E) -> Ending
-    ensures shown { HasShown result (W.state writer.old).contents (W.state writer.new).contents (W.state writer.old).failed (W.state writer.new).failed }
-    ensures passed_on { result ≡ Ending.Done → (W.state writer.new).passed_on ≡ true }
-{
-    match pass_on(writer, help.as_bytes()) {
-        Ok(()) => Ending::Done,
-        Err(_) => report_fault(Fault::Write, errors),
-    }
+    Ending::Usage
 }
 
 /// Says why the words of the command line could not be read: one is no text, or there was no memory for them.
@@ -84,15 +69,32 @@ pub fn without_words<E: Write>(kind: io::ErrorKind, errors: &mut E) -> Ending {
     Ending::Usage
 }
 
-/// Reports a fault in a line, and what caused it in a second one, where the first doesn't say it.
-pub fn report_fault<E: Write>(fault: Fault, errors: &mut E) -> Ending
+/// Reports a fault in a line, and in a second one why the reader gave no more, where that is the fault.
+pub fn report_fault<R: Counted, E: Write>(fault: Fault, reader: &R, errors: &mut E) -> Ending
     ensures { result ≡ Ending.Fault }
 {
     let _ = writeln!(errors, "pgpeer: {fault}");
-    if let Some(cause) = fault.cause() {
-        let _ = writeln!(errors, "pgpeer: {cause}");
+    if matches!(fault, Fault::Read) {
+        report_end(reader, errors);
     }
     Ending::Fault
+}
+
+/// Reports why the reader gave no more and did not come to its end. Where a read had failed before the run, it is told as that.
+fn report_end<R: Counted, E: Write>(reader: &R, errors: &mut E) {
+    let Bounds { lines, bytes } = SCRIPT_BOUNDS;
+    let given = reader.given();
+    let line = given.lines.saturating_add(1);
+    let _ = if reader.has_failed() {
+        writeln!(errors, "pgpeer: a read failed in line {line}")
+    } else if given.bytes > bytes {
+        writeln!(
+            errors,
+            "pgpeer: the script has more than {bytes} bytes, in line {line}"
+        )
+    } else {
+        writeln!(errors, "pgpeer: the script has more than {lines} lines")
+    };
 }
 
 /// Reports how many entries a compaction left out, and how many lines were refused.

@@ -20,19 +20,17 @@ pub fn all_started<'s, E, J: Naming + Send + Sync, T: Threads + Wait + Sync>(
     requires { workers ≤ engine.now.workers }
 {
     for seat in 0..workers {
-        if scope.spawn(move || serve(rt, engine, seat)).is_err() {
+        // A worker that lacks memory or a copy of the log ends early, and no answer shows it: an ask reads what it needs.
+        let work = move ||
+            requires { seat < engine.now.workers }
+        {
+            let _ = engine.work(rt, seat, &Open);
+        };
+        if scope.spawn(work).is_err() {
             return false;
         }
     }
     true
-}
-
-// The worker at the seat. One that lacks memory or a copy of the log ends early, and no answer shows it: an ask reads what it
-// needs.
-fn serve<J: Naming, T: Wait>(rt: &T, engine: &Engine<J>, seat: usize)
-    requires { seat < engine.now.workers }
-{
-    let _ = engine.work(rt, seat, &Open);
 }
 
 /// Closes the log, if it isn't closed yet, and gives the receipt of a front that shows it. Tries again for as long as there is
@@ -43,8 +41,7 @@ pub fn close<J: Naming, T: Wait>(rt: &T, engine: &Engine<J>) -> Receipt
     let told = engine.told(rt);
     for _ in rt.forever() {
         match engine.submit(rt, Entry::Close, &told) {
-            Ok(at) => return at,
-            Err(SubmitFault::Refused { why: _, at }) => return at,
+            Ok(at) | Err(SubmitFault::Refused { at, .. }) => return at,
             Err(SubmitFault::Memory | SubmitFault::NoReader) => {}
         }
     }
