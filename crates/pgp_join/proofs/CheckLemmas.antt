@@ -1,11 +1,11 @@
 -- What two views of a group, and the groups that a map has, tell of whether logs are alike.
-use Rattle.pgp_group.proofs.Common.{◌≡◌, ℕ, List, Bool, true, Option, Some, None, is_some, map, refl, ap, sym, ◌∙◌, subst, option_map, same_Some, true≢false, AnyCode, Entry, Incremental, PgId, History, has_group, incs_of, group_history, group_with, GroupLog, view_of}
+use Rattle.pgp_group.proofs.Common.{◌≡◌, ℕ, List, Bool, true, Option, Some, None, is_some, refl, ap, sym, ◌∙◌, subst, option_map, same_Some, true≢false, AnyCode, Entry, PgId, History, has_group, incs_of, group_history, group_with, view_of}
 use Rattle.std.proofs.Common.{Decides, zero, suc, ◌+◌, ◌<◌, ◌∷◌, ◌++◌, [], take, get_or, All, arith}
 use Rattle.std.proofs.lemmas.List.Elements.{All-append}
 use Rattle.pgp_ids.specs.declared.view.View.{View}
 use Rattle.pgp_group.proofs.ViewLemmas.{history_there}
 use Rattle.pgp_group.specs.View.{scratch}
-use Rattle.pgp_join.specs.Alike.{IsAlike, IsGroupAlike, ending_from}
+use Rattle.pgp_join.specs.Alike.{IsGroupAlike, ending_from}
 
 -- what both views have to say
 abbrev pub ViewsAgree : View → View → Type 0

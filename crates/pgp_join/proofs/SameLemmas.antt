@@ -1,5 +1,5 @@
 -- The tests of two reports, or of two past intervals, decide whether these are the same.
-use Rattle.std.proofs.Common.{◌≡◌, ℕ, List, Bool, true, false, ◌&&◌, Decides, nat_eq, ap, sym, refl, map, subst, Bor, ◌∙◌, [], ◌∷◌, ◌++◌, ◌||◌, Option, Some, None, filter_map, option_to_list}
+use Rattle.std.proofs.Common.{◌≡◌, List, Bool, true, false, ◌&&◌, Decides, nat_eq, ap, sym, refl, map, subst, Bor, ◌∙◌, [], ◌∷◌, ◌++◌, ◌||◌, Option, Some, None, filter_map, option_to_list}
 use Rattle.std.proofs.Math.Bool.{beq}
 use Rattle.std.proofs.lemmas.Bool.{true≢false}
 use Rattle.std.proofs.lemmas.List.{map-append}

@@ -1,5 +1,5 @@
 -- Whether two reports, or two past intervals, are the same, part by part.
-use Rattle.std.specs.Prelude.{◌&&◌, List, ℕ, Bool, true, false, nat_eq}
+use Rattle.std.specs.Prelude.{◌&&◌, Bool, true, false, nat_eq}
 use Rattle.std.specs.Cmp.Lexicographic.{pointwise}
 use Rattle.std.proofs.Math.Bool.{beq}
 use Rattle.pgp_ids.specs.declared.log_entry.Change.{Change}

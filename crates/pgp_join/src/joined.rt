@@ -34,11 +34,7 @@ fn shorter(alloc: Global, log: &mut Log) -> Result<Option<Vec<Arc<Entry>>>, Allo
         return Ok(None);
     };
     let joined = entries_of(alloc, log.entries(), pieces.as_slice())?;
-    if may_stand_for(alloc, log, joined.as_slice())? {
-        Ok(Some(joined))
-    } else {
-        Ok(None)
-    }
+    Ok(may_stand_for(alloc, log, joined.as_slice())?.then_some(joined))
 }
 
 /// The entries of the pieces of a log.

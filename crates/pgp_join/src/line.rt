@@ -16,7 +16,7 @@ pub fn entry_line(alloc: Global, entry: &Entry) -> Result<Vec<u8>, AllocError> {
     let mut out = Writer::new(Vec::new(alloc));
     out.begin_object()?;
     write_field(&mut out, alloc, "op", &EntryOp::of(entry).name())?;
-    write_number(&mut out, "v", u32::from(Format::Three.number()))?;
+    write_field(&mut out, alloc, "v", &Format::Three.number())?;
     match entry {
         Entry::Inc(inc) => write_inc(&mut out, alloc, inc)?,
         Entry::Info(info) => write_info(&mut out, alloc, info)?,
@@ -31,17 +31,17 @@ fn write_inc(out: &mut Writer, alloc: Global, inc: &Incremental) -> Result<(), A
     write_field(out, alloc, "after", &inc.after)?;
     write_field(out, alloc, "epoch", &inc.epoch)?;
     if let Some(buckets) = &inc.crush {
-        write_list(out, alloc, "crush", buckets)?;
+        write_list(out, alloc, "crush", buckets, write_bucket)?;
     }
-    write_change(out, alloc, "pools", &inc.pools)?;
-    write_change(out, alloc, "sizes", &inc.sizes)?;
-    write_change(out, alloc, "temp", &inc.temp)?;
-    write_change(out, alloc, "up", &inc.up)?;
-    write_change(out, alloc, "down", &inc.down)?;
-    write_change(out, alloc, "gone", &inc.gone)?;
-    write_change(out, alloc, "weight", &inc.weight)?;
-    write_change(out, alloc, "up_thru", &inc.up_thru)?;
-    write_change(out, alloc, "lost", &inc.lost)
+    write_change(out, alloc, "pools", &inc.pools, write_pool)?;
+    write_change(out, alloc, "sizes", &inc.sizes, write_sizes)?;
+    write_change(out, alloc, "temp", &inc.temp, write_temp)?;
+    write_change(out, alloc, "up", &inc.up, write_osd)?;
+    write_change(out, alloc, "down", &inc.down, write_osd)?;
+    write_change(out, alloc, "gone", &inc.gone, write_osd)?;
+    write_change(out, alloc, "weight", &inc.weight, write_weight)?;
+    write_change(out, alloc, "up_thru", &inc.up_thru, write_epoch)?;
+    write_change(out, alloc, "lost", &inc.lost, write_epoch)
 }
 
 fn write_info(out: &mut Writer, alloc: Global, info: &Info) -> Result<(), AllocError> {
@@ -60,111 +60,92 @@ fn write_report(out: &mut Writer, alloc: Global, report: &Report) -> Result<(), 
     write_field(out, alloc, "pg", &report.pg)?;
     write_field(out, alloc, "from", &report.member)?;
     write_field(out, alloc, "stamp", &report.stamp)?;
-    write_list(out, alloc, "log", &report.log)
-}
-
-fn write_number(out: &mut Writer, key: &str, number: u32) -> Result<(), AllocError> {
-    out.key(key)?;
-    out.u64(u64::from(number))
+    write_list(out, alloc, "log", &report.log, write_log_entry)
 }
 
 /// The field of a list, unless that is empty.
-fn write_change<T: Item>(
+fn write_change<T, F: Fn(&mut Writer, Global, &T) -> Result<(), AllocError>>(
     out: &mut Writer,
     alloc: Global,
     key: &str,
     items: &Seq<T>,
-) -> Result<(), AllocError> {
+    write: F,
+) -> Result<(), AllocError>
+    requires { F.IsAlwaysCallable write }
+{
     if items.is_empty() {
         return Ok(());
     }
-    write_list(out, alloc, key, items)
+    write_list(out, alloc, key, items, write)
 }
 
-fn write_list<T: Item>(
+fn write_list<T, F: Fn(&mut Writer, Global, &T) -> Result<(), AllocError>>(
     out: &mut Writer,
     alloc: Global,
     key: &str,
     items: &Seq<T>,
-) -> Result<(), AllocError> {
+    write: F,
+) -> Result<(), AllocError>
+    requires { F.IsAlwaysCallable write }
+{
     out.key(key)?;
     out.begin_array()?;
     for item in items.as_slice() {
-        item.write_item(out, alloc)?;
+        write(out, alloc, item)?;
     }
     out.end_array()
 }
 
-/// What stands in the lists of entries.
-trait Item {
-    /// Writes it as one value.
-    fn write_item(&self, out: &mut Writer, alloc: Global) -> Result<(), AllocError>;
+fn write_osd(out: &mut Writer, _alloc: Global, osd: &OsdId) -> Result<(), AllocError> {
+    out.u64(u64::from(osd.number()))
 }
 
-impl Item for OsdId {
-    fn write_item(&self, out: &mut Writer, alloc: Global) -> Result<(), AllocError> {
-        self.write(out, alloc)
-    }
+fn write_weight(out: &mut Writer, _alloc: Global, it: &DeviceWeight) -> Result<(), AllocError> {
+    write_pair(out, u64::from(it.osd.number()), u64::from(it.weight))
 }
 
-impl Item for DeviceWeight {
-    fn write_item(&self, out: &mut Writer, _alloc: Global) -> Result<(), AllocError> {
-        write_pair(out, u64::from(self.osd.number()), u64::from(self.weight))
-    }
+fn write_epoch(out: &mut Writer, _alloc: Global, it: &DeviceEpoch) -> Result<(), AllocError> {
+    write_pair(
+        out,
+        u64::from(it.osd.number()),
+        u64::from(it.epoch.number()),
+    )
 }
 
-impl Item for DeviceEpoch {
-    fn write_item(&self, out: &mut Writer, _alloc: Global) -> Result<(), AllocError> {
-        write_pair(
-            out,
-            u64::from(self.osd.number()),
-            u64::from(self.epoch.number()),
-        )
-    }
+fn write_sizes(out: &mut Writer, _alloc: Global, sizes: &PoolSizes) -> Result<(), AllocError> {
+    out.begin_array()?;
+    out.u64(u64::from(sizes.pool.number()))?;
+    out.u64(u64::from(sizes.size))?;
+    out.u64(u64::from(sizes.min_size))?;
+    out.end_array()
 }
 
-impl Item for PoolSizes {
-    fn write_item(&self, out: &mut Writer, _alloc: Global) -> Result<(), AllocError> {
-        out.begin_array()?;
-        out.u64(u64::from(self.pool.number()))?;
-        out.u64(u64::from(self.size))?;
-        out.u64(u64::from(self.min_size))?;
-        out.end_array()
-    }
+fn write_temp(out: &mut Writer, alloc: Global, temp: &TempList) -> Result<(), AllocError> {
+    out.begin_array()?;
+    out.u64(u64::from(temp.pg.pool.number()))?;
+    out.u64(u64::from(temp.pg.pg))?;
+    temp.osds.write(out, alloc)?;
+    out.end_array()
 }
 
-impl Item for TempList {
-    fn write_item(&self, out: &mut Writer, alloc: Global) -> Result<(), AllocError> {
-        out.begin_array()?;
-        out.u64(u64::from(self.pg.pool.number()))?;
-        out.u64(u64::from(self.pg.pg))?;
-        self.osds.write(out, alloc)?;
-        out.end_array()
-    }
+fn write_log_entry(out: &mut Writer, _alloc: Global, entry: &LogEntry) -> Result<(), AllocError> {
+    out.begin_array()?;
+    out.u64(u64::from(entry.version.epoch.number()))?;
+    out.u64(u64::from(entry.version.v))?;
+    out.string(entry.change.name())?;
+    out.string(entry.object.as_str())?;
+    out.end_array()
 }
 
-impl Item for LogEntry {
-    fn write_item(&self, out: &mut Writer, _alloc: Global) -> Result<(), AllocError> {
-        out.begin_array()?;
-        out.u64(u64::from(self.version.epoch.number()))?;
-        out.u64(u64::from(self.version.v))?;
-        out.string(self.change.name())?;
-        out.string(self.object.as_str())?;
-        out.end_array()
-    }
-}
-
-impl Item for PoolSpec {
-    fn write_item(&self, out: &mut Writer, alloc: Global) -> Result<(), AllocError> {
-        out.begin_object()?;
-        write_number(out, "id", u32::from(self.id.number()))?;
-        write_number(out, "pg_num", u32::from(self.pg_num))?;
-        write_kind(out, alloc, &self.kind)?;
-        write_field(out, alloc, "size", &self.size)?;
-        write_field(out, alloc, "min_size", &self.min_size)?;
-        write_field(out, alloc, "leaf", &self.leaf)?;
-        out.end_object()
-    }
+fn write_pool(out: &mut Writer, alloc: Global, pool: &PoolSpec) -> Result<(), AllocError> {
+    out.begin_object()?;
+    write_field(out, alloc, "id", &pool.id.number())?;
+    write_field(out, alloc, "pg_num", &usize::from(pool.pg_num))?;
+    write_kind(out, alloc, &pool.kind)?;
+    write_field(out, alloc, "size", &pool.size)?;
+    write_field(out, alloc, "min_size", &pool.min_size)?;
+    write_field(out, alloc, "leaf", &pool.leaf)?;
+    out.end_object()
 }
 
 fn write_kind(out: &mut Writer, alloc: Global, kind: &PoolKind) -> Result<(), AllocError> {
@@ -204,37 +185,32 @@ fn write_part(out: &mut Writer, part: &Part) -> Result<(), AllocError> {
     out.end_array()
 }
 
-impl Item for BucketSpec {
-    fn write_item(&self, out: &mut Writer, alloc: Global) -> Result<(), AllocError> {
-        out.begin_object()?;
-        out.key("id")?;
-        out.i64(i64::from(self.id))?;
-        write_number(out, "type", u32::from(self.kind))?;
-        write_field(out, alloc, "alg", &alg_name(self.alg))?;
-        write_list(out, alloc, "items", &self.items)?;
-        if self.alg != BucketAlg::Uniform {
-            write_list(out, alloc, "weights", &self.weights)?;
-        }
-        out.end_object()
-    }
-}
-
-impl Item for i32 {
-    fn write_item(&self, out: &mut Writer, _alloc: Global) -> Result<(), AllocError> {
-        out.i64(i64::from(*self))
-    }
-}
-
-impl Item for u32 {
-    fn write_item(&self, out: &mut Writer, _alloc: Global) -> Result<(), AllocError> {
-        out.u64(u64::from(*self))
-    }
-}
-
-fn alg_name(alg: BucketAlg) -> &'static str {
-    match alg {
+fn write_bucket(out: &mut Writer, alloc: Global, bucket: &BucketSpec) -> Result<(), AllocError> {
+    out.begin_object()?;
+    out.key("id")?;
+    out.i64(i64::from(bucket.id))?;
+    write_field(out, alloc, "type", &bucket.kind)?;
+    let alg = match bucket.alg {
         BucketAlg::Uniform => "uniform",
         BucketAlg::List => "list",
         BucketAlg::Straw2 => "straw2",
+    };
+    write_field(out, alloc, "alg", &alg)?;
+    write_list(
+        out,
+        alloc,
+        "items",
+        &bucket.items,
+        |out, _, item| out.i64(i64::from(*item)),
+    )?;
+    if bucket.alg != BucketAlg::Uniform {
+        write_list(
+            out,
+            alloc,
+            "weights",
+            &bucket.weights,
+            |out, _, weight| out.u64(u64::from(*weight)),
+        )?;
     }
+    out.end_object()
 }

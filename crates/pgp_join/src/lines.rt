@@ -38,10 +38,7 @@ fn lines_of_entries(alloc: Global, entries: &[Arc<Entry>]) -> Result<Option<Vec<
 {
     let text = text_of_entries(alloc, entries)?;
     let mut log = Log::over(alloc, entries)?;
-    match entries_if_alike(alloc, &mut log, text.as_slice())? {
-        Some(_) => Ok(Some(text)),
-        None => Ok(None),
-    }
+    Ok(entries_if_alike(alloc, &mut log, text.as_slice())?.and(Some(text)))
 }
 
 /// A line for each entry, each with a line feed.
@@ -64,11 +61,7 @@ pub fn entries_if_alike(
     ensures { IfOk result (λ found. IfSome found (λ entries. MayStandFor log.old text.now entries)) }
 {
     let mut other = log_of_text(alloc, text)?;
-    if are_alike(alloc, log, &mut other)? {
-        Ok(Some(other.entries().len()))
-    } else {
-        Ok(None)
-    }
+    Ok(are_alike(alloc, log, &mut other)?.then_some(other.entries().len()))
 }
 
 /// The log that the lines of the text make, up to version 3.

@@ -27,7 +27,20 @@ pub(crate) struct Run<'a> {
 impl Run<'_> {
     /// The incremental in this epoch that leads from the one map to the other, as far as it can be told yet.
     pub fn inc(&self, alloc: Global, epoch: Epoch) -> Result<Incremental, AllocError> {
-        let mut inc = empty(alloc, self.before.epoch(), epoch);
+        let mut inc = Incremental {
+            after: self.before.epoch(),
+            epoch,
+            up: Seq::new(alloc),
+            down: Seq::new(alloc),
+            gone: Seq::new(alloc),
+            weight: Seq::new(alloc),
+            up_thru: Seq::new(alloc),
+            lost: Seq::new(alloc),
+            pools: Seq::new(alloc),
+            sizes: Seq::new(alloc),
+            temp: Seq::new(alloc),
+            crush: None,
+        };
         for osd in self.devices {
             self.put_device(&mut inc, *osd)?;
         }
@@ -82,17 +95,18 @@ impl Run<'_> {
         let Some(pool) = self.after.pool(id) else {
             return Ok(());
         };
-        let Some(old) = self.before.pool(id) else {
-            return push_pool(&mut inc.pools, &pool);
-        };
-        if old.size == pool.size && old.min_size == pool.min_size {
-            return Ok(());
+        match self.before.pool(id) {
+            None => {
+                let kind: PoolKind = pool.kind;
+                inc.pools.push(PoolSpec { kind, ..pool })
+            }
+            Some(old) if old.size == pool.size && old.min_size == pool.min_size => Ok(()),
+            Some(_) => inc.sizes.push(PoolSizes {
+                pool: id,
+                size: pool.size,
+                min_size: pool.min_size,
+            }),
         }
-        inc.sizes.push(PoolSizes {
-            pool: id,
-            size: pool.size,
-            min_size: pool.min_size,
-        })
     }
 
     /// Puts in the pg_temp lists of the groups that the run names.
@@ -113,53 +127,17 @@ impl Run<'_> {
         if list == self.before.temp(*pg) {
             return Ok(());
         }
-        let mut osds = Seq::new(alloc);
-        for place in list {
-            osds.push(*place)?;
-        }
+        let osds = Seq::from_vec(list.to_vec(alloc)?);
         inc.temp.push(TempList { pg: *pg, osds })
     }
 
     /// Puts in the last tree that the run gives.
     fn put_tree(&self, alloc: Global, inc: &mut Incremental) -> Result<(), AllocError> {
-        let mut last = None;
-        for it in self.incs {
-            last = it.inc.crush.as_ref().or(last);
-        }
-        if let Some(tree) = last {
+        let trees = self.incs.iter().rev();
+        if let Some(tree) = trees.filter_map(|it| it.inc.crush.as_ref()).next() {
             let buckets = copied_buckets(alloc, tree.as_slice())?;
             inc.crush = Some(Seq::from_vec(buckets));
         }
         Ok(())
     }
-}
-
-/// The incremental that changes the epoch alone.
-fn empty(alloc: Global, after: Epoch, epoch: Epoch) -> Incremental {
-    Incremental {
-        after,
-        epoch,
-        up: Seq::new(alloc),
-        down: Seq::new(alloc),
-        gone: Seq::new(alloc),
-        weight: Seq::new(alloc),
-        up_thru: Seq::new(alloc),
-        lost: Seq::new(alloc),
-        pools: Seq::new(alloc),
-        sizes: Seq::new(alloc),
-        temp: Seq::new(alloc),
-        crush: None,
-    }
-}
-
-fn push_pool(pools: &mut Seq<PoolSpec>, pool: &PoolSpec) -> Result<(), AllocError> {
-    let kind: PoolKind = pool.kind;
-    pools.push(PoolSpec {
-        id: pool.id,
-        pg_num: pool.pg_num,
-        kind,
-        size: pool.size,
-        min_size: pool.min_size,
-        leaf: pool.leaf,
-    })
 }

@@ -66,8 +66,7 @@ fn is_of_destroyed(map: &OsdMap, entry: &Entry) -> bool {
     match entry {
         Entry::Info(info) => !map.exists(info.member.osd),
         Entry::Entries(report) => !map.exists(report.member.osd),
-        Entry::Inc(_) => false,
-        Entry::Close => false,
+        Entry::Inc(_) | Entry::Close => false,
     }
 }
 

@@ -77,17 +77,13 @@ impl Starts {
 
     /// The incremental at this place begins a run, or there is none.
     pub fn has(&self, place: usize) -> bool {
-        match self.starts.get(place) {
-            Some(start) => *start,
-            None => true,
-        }
+        self.starts.get(place).copied().unwrap_or(true)
     }
 
     fn mark(&mut self, place: Option<usize>) {
-        let Some(place) = place else {
-            return;
-        };
-        if let Some(start) = self.starts.get_mut(place) {
+        if let Some(place) = place
+            && let Some(start) = self.starts.get_mut(place)
+        {
             *start = true;
         }
     }

@@ -1,5 +1,5 @@
-use Rattle.pgp_group.proofs.Common.{◌≡◌, ℕ, ◌+◌, ◌++◌, ◌∷◌, [], true, false, All, All-contains, All-nil, refl, ap, sym, ◌∙◌, subst, arith, true≢false, take_all, PgId, incs_of}
-use Rattle.std.proofs.Common.{rules, take, length}
+use Rattle.pgp_group.proofs.Common.{◌≡◌, ◌+◌, ◌++◌, ◌∷◌, [], true, false, All, All-contains, All-nil, refl, sym, ◌∙◌, subst, arith, true≢false, incs_of}
+use Rattle.std.proofs.Common.{rules, take}
 use Rattle.std.proofs.lemmas.Grind.{common_steps}
 use Rattle.pgp_join.specs.Alike.{IsGroupAlike}
 use Rattle.pgp_join.proofs.CheckLemmas.{all-more, has-group}

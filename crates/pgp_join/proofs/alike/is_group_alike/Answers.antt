@@ -1,4 +1,4 @@
-use Rattle.pgp_group.proofs.Common.{◌≡◌, Some, IfOk-weaker, sym, ◌∙◌}
+use Rattle.pgp_group.proofs.Common.{◌≡◌, Some, IfOk-weaker}
 use Rattle.std.proofs.Common.{rules}
 use Rattle.pgp_group.specs.View.{scratch}
 use Rattle.pgp_join.proofs.CheckLemmas.{group_Decides}

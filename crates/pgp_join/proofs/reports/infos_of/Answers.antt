@@ -1,7 +1,7 @@
 use Rattle.std.proofs.Common.{◌≡◌, ◌+◌, ◌++◌, ◌∷◌, [], ap, sym, ◌∙◌, map, take, option_map, append-nil, Some, None, Bor, arith}
 use Rattle.std.specs.Arc.{arc_value}
 use Rattle.std.proofs.lemmas.Grind.{common_steps}
-use Rattle.std.proofs.lemmas.List.{map-append, take_more}
+use Rattle.std.proofs.lemmas.List.{map-append}
 use Rattle.pgp_ids.specs.declared.report.Info.{Info}
 use Rattle.pgp_group.specs.Entries.{info_of, infos_of}
 use Rattle.pgp_join.proofs.SameLemmas.{picked-more}
