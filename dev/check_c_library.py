@@ -92,6 +92,9 @@ def tests_in_c(folder, work, words):
 
 # Names and numbers
 
+# of kinds of pools and of buckets, which the typed calls are held against lines with
+IN_INCREMENTALS = {"PGP_REPLICATED": 0, "PGP_ERASURE": 1, "PGP_GROUPED": 2, "PGP_ALG_UNIFORM": 0, "PGP_ALG_LIST": 1, "PGP_ALG_STRAW2": 2}
+UNNAMED = {"PGP_LONGEST_LINE", "PGP_NO_DEVICE", "PGP_MISSING", "PGP_BACKFILL", "PGP_DIVERGED", *IN_INCREMENTALS}
 
 def numbers_in(source, pattern):
     """The names and numbers of the arms of a function of the source."""
@@ -104,7 +107,7 @@ def upper(name):
 
 def wanted_numbers():
     """The names of the header with their numbers, by the sources."""
-    wanted = {"PGP_LONGEST_LINE": 1_048_576, "PGP_NO_DEVICE": 65535, "PGP_ASK_UNKNOWN_GROUP": 40}
+    wanted = {"PGP_LONGEST_LINE": 1_048_576, "PGP_NO_DEVICE": 65535, "PGP_ASK_UNKNOWN_GROUP": 40, **IN_INCREMENTALS}
     for source, pattern, memory in (
         ("pgp_c/src/status.rt", r"Status::(\w+) => (\d+)", None),
         ("pgp_c/src/view.rt", r"Verdict::(\w+) => (\d+)", None),
@@ -120,7 +123,7 @@ def wanted_numbers():
 
 def wrong_names(header):
     """What of the header isn't what the sources say."""
-    told = {name: int(number) for name, number in re.findall(r"(PGP_(?!VERSION)[A-Z_]+)(?: =| ) ?(\d+)", header)}
+    told = {name: int(number) for name, number in re.findall(r"(PGP_(?!VERSION)[A-Z_0-9]+)(?: =| ) ?(\d+)", header)}
     wanted = wanted_numbers()
     for name in {*told, *wanted}:
         if told.get(name) != wanted.get(name):
@@ -130,7 +133,7 @@ def wrong_names(header):
         if upper(word) not in (name, name.replace("ASK_", ""), name.replace("LINE_", "")):
             yield f"{name}: its name is {word}"
     unnamed = {name for name in wanted if f"case {name}:" not in header}
-    yield from (f"{name}: it has no name" for name in unnamed - {"PGP_LONGEST_LINE", "PGP_NO_DEVICE", "PGP_MISSING", "PGP_BACKFILL", "PGP_DIVERGED"})
+    yield from (f"{name}: it has no name" for name in unnamed - UNNAMED)
 
 
 def wrong_versions(folder):
@@ -232,7 +235,7 @@ def wrong_package(folder, program):
 CMAKE = """
 cmake_minimum_required(VERSION 3.13)
 project(outage C)
-find_package(pgpeer 0.2 REQUIRED)
+find_package(pgpeer 0.3 REQUIRED)
 foreach(kind static shared)
     add_executable(by_${kind} OUTAGE)
     target_link_libraries(by_${kind} pgpeer::${kind})

@@ -92,7 +92,7 @@ CASES = [
     Case("help on an explanation", ["explain", "--help"], 0, output=None, says=b"pgpeer explain 1.a <"),
     Case("help on a compaction", ["compact", "--help"], 0, output=None),
     Case("help that can't be written", ["--help"], 3, writes="/dev/full", errors=WRITE_FAULT),
-    Case("the version", ["--version"], 0, output=b"pgpeer 0.2.0\n"),
+    Case("the version", ["--version"], 0, output=b"pgpeer 0.3.0\n"),
     Case("no command", [], 2, script=CLOSE, errors=None),
     Case("another command", ["peer"], 2, script=CLOSE, errors=None),
     Case("a word too many", ["run", "now"], 2, errors=None, tells=b"reads standard input: pgpeer run < FILE"),

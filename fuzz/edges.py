@@ -197,7 +197,7 @@ def words(program: str) -> bool:
     if any(ended(program, CLOSE, "run", *it) != End(CLOSED, b"", 0) for it in right):
         return False
     shown = [ended(program, b"", *it) for it in (("--version",), ("--help",), ("run", "--help"), ("compact", "--help"))]
-    return shown[0] == End(b"pgpeer 0.2.0\n", b"", 0) and all(it.status == 0 and it.out and not it.errors for it in shown)
+    return shown[0] == End(b"pgpeer 0.3.0\n", b"", 0) and all(it.status == 0 and it.out and not it.errors for it in shown)
 
 
 def main() -> int:

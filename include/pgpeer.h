@@ -37,7 +37,7 @@ extern "C" {
 
 /* The version of this header, in parts and as pgp_version gives it. */
 #define PGP_VERSION_MAJOR 0
-#define PGP_VERSION_MINOR 2
+#define PGP_VERSION_MINOR 3
 #define PGP_VERSION_PATCH 0
 #define PGP_VERSION (PGP_VERSION_MAJOR * 10000 + PGP_VERSION_MINOR * 100 + PGP_VERSION_PATCH)
 
@@ -66,17 +66,17 @@ enum {
     /* pgp_locate */
     PGP_UNKNOWN_POOL = 42,
 
-    /* pgp_submit_info, pgp_submit_entries, pgp_submit_close: the log doesn't take the entry */
+    /* pgp_submit_inc, pgp_submit_info, pgp_submit_entries, pgp_submit_close: the log doesn't take the entry */
     PGP_LOG_FULL = 50,
+    PGP_CLOSED = 64,
+
+    /* pgp_submit_info, pgp_submit_entries */
     PGP_UNKNOWN_GROUP = 60,
     PGP_UNKNOWN_MEMBER = 61,
     PGP_FUTURE_STAMP = 62,
     PGP_BAD_VERSION = 63,
-    PGP_CLOSED = 64
-};
 
-/* The other numbers that answers to lines have as their code. No call has one as its status. */
-enum {
+    /* pgp_submit_inc */
     PGP_EPOCH_GAP = 10,
     PGP_TWICE = 11,
     PGP_UNKNOWN_DEVICE = 12,
@@ -88,7 +88,11 @@ enum {
     PGP_BAD_POOL = 18,
     PGP_POOL_KNOWN = 19,
     PGP_BAD_TEMP = 20,
-    PGP_TREE_FAULT = 21,
+    PGP_TREE_FAULT = 21
+};
+
+/* The other numbers that answers to lines have as their code. No call has one as its status. */
+enum {
     PGP_LINE_TOO_LONG = 30,
     PGP_NOT_JSON = 31,
     PGP_NO_OP = 32,
@@ -115,6 +119,20 @@ enum {
     PGP_MISSING = 0,
     PGP_BACKFILL = 1,
     PGP_DIVERGED = 2
+};
+
+/* How a pool keeps its objects. */
+enum {
+    PGP_REPLICATED = 0,
+    PGP_ERASURE = 1,
+    PGP_GROUPED = 2
+};
+
+/* How a bucket of the placement tree chooses one of its items. */
+enum {
+    PGP_ALG_UNIFORM = 0,
+    PGP_ALG_LIST = 1,
+    PGP_ALG_STRAW2 = 2
 };
 
 /* Stands for no device: at a place without one, behind the end of a list of places, and where there is no primary or best. */
@@ -269,6 +287,110 @@ uint32_t pgp_missing_objects(pgp_session *session, uint32_t pool, uint32_t pg, u
  * entry of the log, or where all are read works out a group. So a caller that has to answer soon makes this call now and then until
  * *left is 0. At PGP_NO_MEMORY and PGP_NOT_OPEN *left is 0. The session stays as it was: it answers sooner, and the same. */
 uint32_t pgp_work(pgp_session *session, size_t max, size_t *left);
+
+/* A device's weight. */
+typedef struct pgp_device_weight {
+    uint32_t osd;            /* 0 to 4095 */
+    uint32_t weight;         /* in units of 1/0x10000 */
+} pgp_device_weight;
+
+/* An epoch that is told of a device. */
+typedef struct pgp_device_epoch {
+    uint32_t osd;            /* 0 to 4095 */
+    uint32_t epoch;
+} pgp_device_epoch;
+
+/* A part of a grouped pool's code. */
+typedef struct pgp_part {
+    uint8_t least;           /* how many of its slots have to be at hand */
+    uint8_t slots_length;    /* how many slots it has, 0 to 16 */
+    uint8_t slots[16];       /* 0 to 15; what is behind them is no matter */
+} pgp_part;
+
+/* A pool that is made. */
+typedef struct pgp_pool {
+    uint32_t id;             /* 1 to 255 */
+    uint32_t pg_num;         /* how many groups it has, 0 to 65535 */
+    uint8_t kind;            /* PGP_REPLICATED, PGP_ERASURE or PGP_GROUPED */
+    uint8_t k;               /* of an erasure pool: how many shards give an object back. Of another it is no matter */
+    uint8_t size;            /* how many members a group wants */
+    uint8_t min_size;        /* how many it needs to take writes */
+    uint8_t leaf;            /* the type of bucket of which no two members may share one, 0 for devices */
+    uint8_t parts_length;    /* of a grouped pool: how many parts its code has, 0 to 16. Of another it is no matter */
+    pgp_part parts[16];      /* what is behind them is no matter */
+} pgp_pool;
+
+/* New sizes of a pool. */
+typedef struct pgp_pool_sizes {
+    uint32_t pool;           /* 1 to 255 */
+    uint8_t size;
+    uint8_t min_size;
+} pgp_pool_sizes;
+
+/* A group's pg_temp list, which stands in for its placement. One without a place takes the group's away. */
+typedef struct pgp_temp {
+    uint32_t pool;           /* 1 to 255 */
+    uint32_t pg;             /* 0 to 1023 */
+    uint8_t length;          /* how many places the list has, 0 to 16 */
+    uint16_t osds[16];       /* 0 to 4095, or PGP_NO_DEVICE; what is behind the list is no matter */
+} pgp_temp;
+
+/* An item of a bucket. */
+typedef struct pgp_item {
+    int32_t id;              /* a bucket by its id, or a device by its number: -65536 to 65535 */
+    uint32_t weight;         /* in units of 1/0x10000. Of an item of a uniform bucket it is no matter */
+} pgp_item;
+
+/* A bucket of the placement tree. */
+typedef struct pgp_bucket {
+    int32_t id;              /* -65536 to -1 */
+    uint8_t type;            /* its level, as host or rack */
+    uint8_t alg;             /* PGP_ALG_UNIFORM, PGP_ALG_LIST, or in a session that reads version 3 PGP_ALG_STRAW2 */
+    const pgp_item *items;
+    size_t items_length;
+} pgp_bucket;
+
+/* A map incremental: what the line of op "inc" says, key by key. */
+typedef struct pgp_inc {
+    uint32_t epoch;          /* the epoch to which it leads */
+    uint32_t after;          /* the epoch of the map that it changes. It is `epoch` less one, but in a session that reads version 3 */
+    const uint32_t *up;      /* devices that boot, 0 to 4095, as those of the next two lists */
+    size_t up_length;
+    const uint32_t *down;    /* devices that are taken down */
+    size_t down_length;
+    const uint32_t *gone;    /* devices that are destroyed */
+    size_t gone_length;
+    const pgp_device_weight *weight;
+    size_t weight_length;
+    const pgp_device_epoch *up_thru; /* through which epoch a device is known to have been up */
+    size_t up_thru_length;
+    const pgp_device_epoch *lost; /* devices that are given up for lost, as of an epoch */
+    size_t lost_length;
+    const pgp_pool *pools;   /* pools that are made */
+    size_t pools_length;
+    const pgp_pool_sizes *sizes;
+    size_t sizes_length;
+    const pgp_temp *temp;
+    size_t temp_length;
+    const pgp_bucket *crush; /* the whole tree. Where it has no bucket, the tree stays */
+    size_t crush_length;
+} pgp_inc;
+
+/* `pgp_inc inc = PGP_INC;` changes nothing: each list is empty, and has a pointer that isn't null. */
+#define PGP_EMPTY_(type) (const type *)8, 0
+#define PGP_INC                                                                                                                   \
+    {                                                                                                                             \
+        0, 0, PGP_EMPTY_(uint32_t), PGP_EMPTY_(uint32_t), PGP_EMPTY_(uint32_t), PGP_EMPTY_(pgp_device_weight),                    \
+            PGP_EMPTY_(pgp_device_epoch), PGP_EMPTY_(pgp_device_epoch), PGP_EMPTY_(pgp_pool), PGP_EMPTY_(pgp_pool_sizes),         \
+            PGP_EMPTY_(pgp_temp), PGP_EMPTY_(pgp_bucket)                                                                          \
+    }
+
+/* Tells a session an incremental, as the line of op "inc" does: PGP_DONE where the log takes it. At any other status the log is as
+ * before: the number of the refusal, the one that the line would have (of PGP_TREE_FAULT the tree's fault isn't said);
+ * PGP_BAD_ARGUMENT where a number with a range above isn't in it, or what version 3 alone has is told to a session that reads version
+ * 2; PGP_NO_MEMORY, which may also come for what has one of these two; or PGP_NOT_OPEN. Nothing of the caller's is kept. The answer to
+ * the last line is. */
+uint32_t pgp_submit_inc(pgp_session *session, const pgp_inc *inc);
 
 /* What a member tells of its copy of a group. */
 typedef struct pgp_info {

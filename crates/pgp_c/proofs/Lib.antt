@@ -2,6 +2,8 @@ pub mod ArenaSend
 pub mod AsBox
 pub mod AskLemmas
 pub mod EachLemmas
+pub mod GivenLemmas
+pub mod IncLemmas
 pub mod OpenLemmas
 pub mod SessionSend
 pub mod SubmitLemmas

@@ -16,5 +16,10 @@ pub mod Needed
 pub mod Log
 pub mod OpenLines
 pub mod Copy
+pub mod Devices
+pub mod Each
+pub mod Inc
+pub mod Pools
+pub mod Tree
 pub mod Report
 pub mod Work

@@ -9,6 +9,7 @@ use Rattle.pgp_text.specs.declared.reply.Reply.{Reply}
 use Rattle.pgp_text.specs.declared.reply.Reply.TheVariants.{Accepted, Asked, Located, Traced, Refused}
 use Rattle.pgp_text.specs.declared.reply.line_refusal.LineRefusal.TheVariants as why
 use Rattle.pgp_core.specs.Session.{LogAndAnswer, log_then, reply_in}
+use Rattle.pgp_core.specs.Wants.{MayFindNone}
 use Rattle.pgp_c.specs.Status.{status_number}
 use Rattle.pgp_c.specs.declared.status.Status.TheVariants.{Done, NoMemory, NotOpen}
 
@@ -27,6 +28,18 @@ reply_status (Refused (why.Line fault)) = status_number Done
 pub record IsEntryTold (was now : LogAndAnswer) (new : Entry) (status : ℕ) : Type 0 where
   pub log : now.log ≡ log_then was.log (Submit new)
   pub status_is : status ≡ reply_status (reply_in was.log (Submit new))
+
+-- there was no memory for the entry, which is one that the log takes, or an incremental at which its map may lack it
+pub record IsLackingMemory (was now : LogAndAnswer) (new : Entry) (status : ℕ) : Type 0 where
+  pub may : MayFindNone was.log (Submit new)
+  pub log : now.log ≡ was.log
+  pub status_is : status ≡ status_number NoMemory
+
+-- An entry was told to a session, which goes from `was` to `now`.
+pub record TellsEntry (was now : LogAndAnswer) (new : Entry) (status : ℕ) : Type 0 where
+  pub answer : now.answer ≡ was.answer
+  pub format : now.format ≡ was.format
+  pub told : IsEntryTold was now new status ⊎ IsLackingMemory was now new status
 
 -- there was no memory for the entry, which is one that the log takes
 pub record IsLacking (was now : LogAndAnswer) (new : Entry) (status : ℕ) : Type 0 where

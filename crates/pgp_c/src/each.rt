@@ -1,9 +1,12 @@
-//! Lists, as C reads them.
+//! Lists, as C reads and gives them.
 
-ghost use Rattle.std.specs.Prelude.{◌≡◌, length, map};
+ghost use Rattle.std.specs.Prelude.{◌≡◌, Option, length, map};
+ghost use Rattle.pgp_c.specs.Each.{IsGiven, each};
 ghost use Rattle.pgp_c.specs.Exports.{put_into, put_status};
 
 use super::status::Status;
+use pgp_ids::Seq;
+use std::alloc::Global;
 
 /// A value that C reads as one of the type `C`.
 pub trait AsC<C> {
@@ -29,4 +32,25 @@ pub fn put_each<T: AsC<C>, C: Copy>(values: &[T], room: &mut [C], count: &mut us
         room[index] = value.as_c();
     }
     Status::Done
+}
+
+/// A value that C gives as one of the type `C`.
+pub trait OfC<C>: Sized {
+    // What C gives, where each number is in its range.
+    ghost of_c: { C → Option Self };
+
+    /// What C gives, or `BadArgument` where a number is out of its range.
+    fn of_c(alloc: Global, given: &C) -> Result<Self, Status>
+        ensures { IsGiven result (of_c given.now) };
+}
+
+/// The values that C gives.
+pub fn each_of<T: OfC<C> + Drop, C>(alloc: Global, given: &[C]) -> Result<Seq<T>, Status>
+    ensures { IsGiven result (each T.of_c given.now) }
+{
+    let mut values = Seq::new(alloc);
+    for it in given {
+        values.push(T::of_c(alloc, it)?)?;
+    }
+    Ok(values)
 }

@@ -13,6 +13,7 @@ ghost use Rattle.pgp_c.specs.Ask.{Asks};
 ghost use Rattle.pgp_c.specs.Compact.{Compacts};
 ghost use Rattle.pgp_c.specs.Copy.{OpensCopy};
 ghost use Rattle.pgp_c.specs.Exports.{Opens, Closes, Tells, Repeats, session_format};
+ghost use Rattle.pgp_c.specs.Inc.{SubmitsInc};
 ghost use Rattle.pgp_c.specs.Info.{Submits};
 ghost use Rattle.pgp_c.specs.JoinedLines.{Joins};
 ghost use Rattle.pgp_c.specs.Lists.{Lists, pgp_device, interval_of, member_of, peer_of};
@@ -28,8 +29,10 @@ ghost use Rattle.pgp_c.specs.Work.{Works};
 mod ask;
 mod compact;
 mod copy;
+mod devices;
 mod each;
 mod held_session;
+mod inc;
 mod info;
 mod joined_lines;
 mod lists;
@@ -40,16 +43,19 @@ mod objects;
 mod open;
 mod open_lines;
 mod place;
+mod pools;
 mod report;
 mod room;
 mod session;
 mod status;
 mod submit;
+mod tree;
 mod view;
 mod work;
 
 use compact::compact_log;
 use copy::open_copy;
+use inc::{PgpInc, submit_inc};
 use info::{PgpInfo, submit_info};
 use joined_lines::put_joined_lines;
 use lists::{PgpInterval, PgpMember, PgpPeer, put_list};
@@ -71,8 +77,8 @@ use submit::submit;
 use view::{PgpView, put_view};
 use work::work;
 
-/// Version 0.2.0.
-const VERSION: u32 = 200;
+/// Version 0.3.0.
+const VERSION: u32 = 300;
 
 /// Opens a session with an empty log, which reads lines of versions 1 and 2.
 #[unsafe(no_mangle)]
@@ -209,6 +215,19 @@ pub extern "C" fn pgp_ask(
         return Status::NotOpen.number();
     };
     let status = put_view(&mut opened, pool, pg, view);
+    session.put(opened);
+    status
+}
+
+/// Adds to the session's log a map incremental. If the log refuses it, the status is the number of the refusal.
+#[unsafe(no_mangle)]
+pub extern "C" fn pgp_submit_inc(alloc: Global, session: &mut PgpSession, inc: &PgpInc<'_>) -> u32
+    ensures { SubmitsInc session.old.held.session session.new.held.session inc.now result }
+{
+    let Some(mut opened) = session.take(alloc) else {
+        return Status::NotOpen.number();
+    };
+    let status = submit_inc(alloc, &mut opened, inc);
     session.put(opened);
     status
 }

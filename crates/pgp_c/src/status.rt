@@ -3,6 +3,8 @@
 ghost use Rattle.std.specs.Prelude.{◌≡◌};
 ghost use Rattle.pgp_c.specs.Status.{status_number};
 
+use std::alloc::AllocError;
+
 /// What became of a call.
 #[derive(Clone, Copy)]
 pub enum Status {
@@ -39,5 +41,16 @@ impl Status {
             Status::NoList => 6,
             Status::NoLines => 7,
         }
+    }
+}
+
+impl From<AllocError> for Status {
+    ghost use Rattle.std.specs.Prelude.{◌≡◌};
+    ghost use Rattle.pgp_c.specs.declared.status.Status.TheVariants.{NoMemory};
+
+    ghost from_gives = { λ _ status. status ≡ NoMemory };
+
+    fn from(_error: AllocError) -> Status {
+        Status::NoMemory
     }
 }

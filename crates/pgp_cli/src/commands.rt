@@ -108,7 +108,7 @@ pub fn parse<'a>(alloc: Global, words: &'a [String]) -> Result<ArgMatches<'a>, E
 /// The program's command line.
 fn pgpeer<'a>(alloc: Global) -> Result<Command<'a>, AllocError> {
     Command::new(alloc, "pgpeer")
-        .version("0.2.0")
+        .version("0.3.0")
         .about("Says where objects lie and whether placement groups may serve, from lines of JSON")
         .after_help(HELP)
         .subcommand_required(true)

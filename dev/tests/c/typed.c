@@ -23,6 +23,7 @@ static char answer[1 << 16];
 
 // The library's calls of the allocator come here by the linker's --wrap. The one of this number, from 1 on, is refused.
 static long calls, refused;
+static int refuses; // Whether each is, in turn.
 
 void *__real_malloc(size_t size);
 void *__real_realloc(void *at, size_t size);
@@ -187,6 +188,9 @@ static void full(void) {
     outage();
     for (int count = 6; count < 65535; count++) CHECK(pgp_submit_info(&session, &info) == PGP_DONE);
     CHECK(pgp_submit_info(&session, &info) == PGP_LOG_FULL);
+    pgp_inc inc = PGP_INC;
+    inc.epoch = 4, inc.after = 3;
+    CHECK(pgp_submit_inc(&session, &inc) == PGP_LOG_FULL);
     CHECK(pgp_compact_log(&session, &left_out) == PGP_DONE && left_out == 65535 - 6);
     CHECK(pgp_submit_info(&session, &info) == PGP_DONE);
     CHECK(pgp_ask(&session, 1, 0, &view) == PGP_DONE && view.count == 7 && view.verdict == PGP_SERVE);
@@ -316,6 +320,202 @@ static void entries(void) {
     CHECK(pgp_ask_log(&session, &after) == PGP_DONE && after.count == before.count + 2);
 }
 
+// Incrementals, each told to one session by a line and to another in a struct: both say the same, and have the same log then. Where
+// calls of the allocator are refused, the structs alone are told.
+static pgp_session by_line = PGP_SESSION, by_struct = PGP_SESSION;
+
+// The lines that stand for a session's log.
+static size_t lines_of(pgp_session *of, uint8_t *room, size_t length) {
+    size_t wanted;
+    CHECK(MADE(pgp_joined_lines(of, room, length, &wanted)) == PGP_DONE);
+    return wanted;
+}
+
+static void both(const char *line, const pgp_inc *inc, uint32_t wanted) {
+    static uint8_t room[1 << 15], other[1 << 15];
+    size_t length;
+    pgp_log lined, built;
+    CHECK(MADE(pgp_submit_inc(&by_struct, inc)) == wanted && pgp_ask_log(&by_struct, &built) == PGP_DONE);
+    CHECK(wanted != PGP_DONE || built.epoch == inc->epoch);
+    if (refuses) return;
+    CHECK(MADE(pgp_line(&by_line, (const uint8_t *)line, strlen(line), (uint8_t *)answer, sizeof answer - 1, &length)) == PGP_DONE);
+    answer[length] = 0;
+    const char *code = strstr(answer, "\"code\":");
+    CHECK((code ? (uint32_t)atoi(code + 7) : PGP_DONE) == wanted);
+    CHECK(pgp_ask_log(&by_line, &lined) == PGP_DONE && lined.count == built.count && lined.incrementals == built.incrementals && lined.epoch == built.epoch);
+    length = lines_of(&by_line, room, sizeof room);
+    CHECK(lines_of(&by_struct, other, sizeof other) == length && memcmp(room, other, length) == 0);
+}
+
+// Both answer a question alike.
+static void alike(const char *line) {
+    if (refuses) return;
+    static uint8_t room[1 << 14], other[1 << 14];
+    size_t length, wanted;
+    CHECK(MADE(pgp_line(&by_line, (const uint8_t *)line, strlen(line), room, sizeof room, &length)) == PGP_DONE);
+    CHECK(MADE(pgp_line(&by_struct, (const uint8_t *)line, strlen(line), other, sizeof other, &wanted)) == PGP_DONE);
+    CHECK(length == wanted && memcmp(room, other, length) == 0 && memcmp(room, "{\"acting\"", 9) == 0);
+}
+
+#define LIST(list, items) list = items, inc.list##_length = sizeof items / sizeof *items
+
+// The incrementals that the log takes, one of each kind of pool and of bucket among them.
+static void taken(void) {
+    static const uint32_t all[] = {0, 1, 2, 3}, first[] = {0}, last[] = {3};
+    static const pgp_device_weight weights[] = {{0, 65536}, {1, 32768}, {2, 65536}, {3, 4294967295}};
+    static const pgp_item items[] = {{0, 1}, {1, 65536}, {2, 131072}, {3, 3}}, hosts[] = {{-1, 5}};
+    const pgp_bucket buckets[] = {{-1, 1, PGP_ALG_STRAW2, items, 4}, {-2, 2, PGP_ALG_LIST, hosts, 1}, {-3, 3, PGP_ALG_UNIFORM, &(pgp_item){-2, 9}, 1}};
+    static const pgp_pool pools[] = {
+        {.id = 1, .pg_num = 2, .kind = PGP_REPLICATED, .k = 7, .size = 3, .min_size = 2},
+        {.id = 255, .pg_num = 1, .kind = PGP_ERASURE, .k = 2, .size = 3, .min_size = 2, .parts_length = 99},
+        {.id = 3, .pg_num = 1, .kind = PGP_GROUPED, .size = 3, .min_size = 2, .parts_length = 2,
+         .parts = {{.least = 1, .slots_length = 2, .slots = {1, 0, 99}}, {.least = 1, .slots_length = 1, .slots = {2}}}}};
+    static const pgp_temp temp[] = {{1, 1, 2, {2, 3, 9999}}, {255, 0, 3, {2, PGP_NO_DEVICE, 0}}}, none[] = {{.pool = 1, .pg = 1}};
+    static const pgp_device_epoch through[] = {{1, 1}}, gone[] = {{0, 2}};
+    static const pgp_pool_sizes sizes[] = {{1, 2, 1}};
+    pgp_inc inc = PGP_INC;
+    inc.epoch = 1;
+    inc.LIST(up, all);
+    inc.LIST(weight, weights);
+    inc.LIST(pools, pools);
+    inc.LIST(temp, temp);
+    inc.LIST(crush, buckets);
+    both("{\"op\":\"inc\",\"v\":3,\"epoch\":1,\"up\":[0,1,2,3],\"weight\":[[0,65536],[1,32768],[2,65536],[3,4294967295]],\"pools\":["
+         "{\"id\":1,\"pg_num\":2,\"kind\":\"replicated\",\"size\":3,\"min_size\":2,\"leaf\":0},"
+         "{\"id\":255,\"pg_num\":1,\"kind\":\"erasure\",\"k\":2,\"size\":3,\"min_size\":2,\"leaf\":0},"
+         "{\"id\":3,\"pg_num\":1,\"kind\":\"grouped\",\"groups\":[[[1,0],1],[[2],1]],\"size\":3,\"min_size\":2,\"leaf\":0}],"
+         "\"temp\":[[1,1,[2,3]],[255,0,[2,null,0]]],\"crush\":["
+         "{\"id\":-1,\"type\":1,\"alg\":\"straw2\",\"items\":[0,1,2,3],\"weights\":[1,65536,131072,3]},"
+         "{\"id\":-2,\"type\":2,\"alg\":\"list\",\"items\":[-1],\"weights\":[5]},{\"id\":-3,\"type\":3,\"alg\":\"uniform\",\"items\":[-2]}]}",
+         &inc, PGP_DONE);
+    inc = (pgp_inc)PGP_INC;
+    inc.epoch = 2, inc.after = 1;
+    inc.LIST(down, first);
+    inc.LIST(up_thru, through);
+    inc.LIST(sizes, sizes);
+    inc.LIST(temp, none);
+    both("{\"op\":\"inc\",\"epoch\":2,\"down\":[0],\"up_thru\":[[1,1]],\"sizes\":[[1,2,1]],\"temp\":[[1,1,[]]]}", &inc, PGP_DONE);
+    inc = (pgp_inc)PGP_INC;
+    inc.epoch = 5, inc.after = 2;
+    inc.LIST(lost, gone);
+    both("{\"op\":\"inc\",\"v\":3,\"after\":2,\"epoch\":5,\"lost\":[[0,2]]}", &inc, PGP_DONE);
+    inc = (pgp_inc)PGP_INC;
+    inc.epoch = 6, inc.after = 5;
+    inc.LIST(gone, first);
+    inc.LIST(down, last);
+    both("{\"op\":\"inc\",\"epoch\":6,\"gone\":[0],\"down\":[3]}", &inc, PGP_DONE);
+    alike("{\"op\":\"ask\",\"pg\":[1,0]}");
+    alike("{\"op\":\"ask\",\"pg\":[1,1]}");
+    alike("{\"op\":\"ask\",\"pg\":[255,0]}");
+    alike("{\"op\":\"ask\",\"pg\":[3,0]}");
+    alike("{\"op\":\"locate\",\"pool\":1,\"name\":\"a\"}");
+}
+
+// An incremental with each fault, as of epoch 6, in which devices 1 and 2 are up.
+static void faulty(void) {
+    static const uint32_t one[] = {1}, twice[] = {4, 4}, unknown[] = {9}, down[] = {3};
+    static const pgp_device_epoch back[] = {{1, 0}}, ahead[] = {{1, 8}};
+    static const pgp_pool known[] = {{.id = 1, .pg_num = 1, .size = 1, .min_size = 1}}, bad[] = {{.id = 9, .pg_num = 65535, .size = 1, .min_size = 1}};
+    static const pgp_temp nowhere[] = {{1, 2, 1, {1}}};
+    const pgp_bucket bucket[] = {{-1, 0, PGP_ALG_UNIFORM, &(pgp_item){65535, 0}, 1}};
+#define FAULT(list, items, text, status) \
+    do { \
+        pgp_inc inc = PGP_INC; \
+        inc.epoch = 7, inc.after = 6; \
+        inc.LIST(list, items); \
+        both("{\"op\":\"inc\",\"epoch\":7," text "}", &inc, status); \
+    } while (0)
+    pgp_inc gap = PGP_INC;
+    gap.epoch = 8, gap.after = 7;
+    both("{\"op\":\"inc\",\"epoch\":8}", &gap, PGP_EPOCH_GAP);
+    gap.epoch = 5, gap.after = 6;
+    both("{\"op\":\"inc\",\"v\":3,\"after\":6,\"epoch\":5}", &gap, PGP_EPOCH_GAP);
+    FAULT(up, twice, "\"up\":[4,4]", PGP_TWICE);
+    FAULT(down, unknown, "\"down\":[9]", PGP_UNKNOWN_DEVICE);
+    FAULT(up, one, "\"up\":[1]", PGP_ALREADY_UP);
+    FAULT(down, down, "\"down\":[3]", PGP_ALREADY_DOWN);
+    FAULT(gone, one, "\"gone\":[1]", PGP_STILL_UP);
+    FAULT(up_thru, back, "\"up_thru\":[[1,0]]", PGP_UP_THRU_BACK);
+    FAULT(up_thru, ahead, "\"up_thru\":[[1,8]]", PGP_AHEAD);
+    FAULT(pools, bad, "\"pools\":[{\"id\":9,\"pg_num\":65535,\"kind\":\"replicated\",\"size\":1,\"min_size\":1,\"leaf\":0}]", PGP_BAD_POOL);
+    FAULT(pools, known, "\"pools\":[{\"id\":1,\"pg_num\":1,\"kind\":\"replicated\",\"size\":1,\"min_size\":1,\"leaf\":0}]", PGP_POOL_KNOWN);
+    FAULT(temp, nowhere, "\"temp\":[[1,2,[1]]]", PGP_BAD_TEMP);
+    FAULT(crush, bucket, "\"crush\":[{\"id\":-1,\"type\":0,\"alg\":\"uniform\",\"items\":[65535]}]", PGP_TREE_FAULT);
+#undef FAULT
+}
+
+// A number out of its range, of each kind that has one: nothing happens.
+static void out_of_range(void) {
+#define OUT(type, list, ...) \
+    do { \
+        const type items[] = {__VA_ARGS__}; \
+        pgp_inc inc = PGP_INC; \
+        inc.epoch = 7, inc.after = 6; \
+        inc.LIST(list, items); \
+        CHECK(MADE(pgp_submit_inc(&by_struct, &inc)) == PGP_BAD_ARGUMENT); \
+    } while (0)
+    pgp_log before, after;
+    CHECK(pgp_ask_log(&by_struct, &before) == PGP_DONE);
+    OUT(uint32_t, up, 4096);
+    OUT(uint32_t, down, 1, 65537);
+    OUT(uint32_t, gone, 4294967295);
+    OUT(pgp_device_weight, weight, {4096, 0});
+    OUT(pgp_device_epoch, up_thru, {4096, 0});
+    OUT(pgp_device_epoch, lost, {0, 1}, {4096, 0});
+    OUT(pgp_pool, pools, {.id = 0, .pg_num = 1, .size = 1, .min_size = 1});
+    OUT(pgp_pool, pools, {.id = 256, .pg_num = 1, .size = 1, .min_size = 1});
+    OUT(pgp_pool, pools, {.id = 9, .pg_num = 65536, .size = 1, .min_size = 1});
+    OUT(pgp_pool, pools, {.id = 9, .pg_num = 1, .kind = 3, .size = 1, .min_size = 1});
+    OUT(pgp_pool, pools, {.id = 9, .pg_num = 1, .kind = PGP_GROUPED, .size = 1, .min_size = 1, .parts_length = 17});
+    OUT(pgp_pool, pools, {.id = 9, .pg_num = 1, .kind = PGP_GROUPED, .size = 1, .min_size = 1, .parts_length = 1, .parts = {{1, 17, {0}}}});
+    OUT(pgp_pool, pools, {.id = 9, .pg_num = 1, .kind = PGP_GROUPED, .size = 1, .min_size = 1, .parts_length = 1, .parts = {{1, 1, {16}}}});
+    OUT(pgp_pool_sizes, sizes, {0, 1, 1});
+    OUT(pgp_pool_sizes, sizes, {256, 1, 1});
+    OUT(pgp_temp, temp, {0, 0, 0, {0}});
+    OUT(pgp_temp, temp, {256, 0, 0, {0}});
+    OUT(pgp_temp, temp, {1, 1024, 0, {0}});
+    OUT(pgp_temp, temp, {1, 0, 17, {0}});
+    OUT(pgp_temp, temp, {1, 0, 1, {4096}});
+    OUT(pgp_bucket, crush, {0, 1, PGP_ALG_UNIFORM, &(pgp_item){0, 0}, 1});
+    OUT(pgp_bucket, crush, {-65537, 1, PGP_ALG_UNIFORM, &(pgp_item){0, 0}, 1});
+    OUT(pgp_bucket, crush, {-1, 1, 3, &(pgp_item){0, 0}, 1});
+    OUT(pgp_bucket, crush, {-1, 1, PGP_ALG_UNIFORM, &(pgp_item){-65537, 0}, 1});
+    OUT(pgp_bucket, crush, {-1, 1, PGP_ALG_UNIFORM, &(pgp_item){65536, 0}, 1});
+#undef OUT
+    CHECK(pgp_ask_log(&by_struct, &after) == PGP_DONE && after.count == before.count);
+}
+
+// Version 3 alone has straw2 buckets, and incrementals that pass over epochs.
+static void of_version_2(void) {
+    const pgp_bucket straw[] = {{-1, 1, PGP_ALG_STRAW2, &(pgp_item){0, 1}, 1}}, list[] = {{-1, 1, PGP_ALG_LIST, &(pgp_item){0, 1}, 1}};
+    pgp_session second = PGP_SESSION;
+    pgp_inc inc = PGP_INC;
+    CHECK(pgp_submit_inc(&second, &inc) == PGP_NOT_OPEN);
+    CHECK(MADE(pgp_open(&second)) == PGP_DONE);
+    CHECK(MADE(pgp_submit_inc(&second, &inc)) == PGP_EPOCH_GAP);
+    inc.epoch = 2;
+    CHECK(MADE(pgp_submit_inc(&second, &inc)) == PGP_BAD_ARGUMENT);
+    inc.epoch = 1;
+    inc.LIST(crush, straw);
+    CHECK(MADE(pgp_submit_inc(&second, &inc)) == PGP_BAD_ARGUMENT);
+    inc.LIST(crush, list);
+    CHECK(MADE(pgp_submit_inc(&second, &inc)) == PGP_DONE);
+    CHECK(pgp_close(&second) == PGP_DONE);
+}
+
+static void incrementals(void) {
+    CHECK(MADE(pgp_open_format(&by_line, 3)) == PGP_DONE && MADE(pgp_open_format(&by_struct, 3)) == PGP_DONE);
+    taken();
+    faulty();
+    out_of_range();
+    pgp_inc inc = PGP_INC;
+    inc.epoch = 7, inc.after = 6;
+    CHECK(MADE(pgp_submit_close(&by_line)) == PGP_DONE && MADE(pgp_submit_close(&by_struct)) == PGP_DONE);
+    both("{\"op\":\"inc\",\"epoch\":7}", &inc, PGP_CLOSED);
+    CHECK(pgp_close(&by_line) == PGP_DONE && pgp_close(&by_struct) == PGP_DONE);
+    of_version_2();
+}
+
 static void places(void) {
     tell("{\"op\":\"locate\",\"pool\":1,\"name\":\"a\"}");
     CHECK(has("\"acting\":[1,2]") && has("\"epoch\":3") && has("\"pg\":[1,0]"));
@@ -380,8 +580,8 @@ static void formats(void) {
     CHECK(pgp_close(&session) == PGP_DONE);
 }
 
-static void all(void) {
-    calls = 0;
+// An outage, and what is asked of it.
+static void asked(void) {
     closed();
     formats();
     CHECK(MADE(pgp_open(&session)) == PGP_DONE);
@@ -393,6 +593,10 @@ static void all(void) {
     refusals();
     CHECK(pgp_close(&session) == PGP_DONE);
     closed();
+}
+
+// The same outage in shorter logs.
+static void shortened(void) {
     CHECK(MADE(pgp_open(&session)) == PGP_DONE);
     outage();
     compaction();
@@ -400,21 +604,36 @@ static void all(void) {
     begun();
     joined();
     CHECK(pgp_close(&session) == PGP_DONE);
+}
+
+// The same outage, worked out bit by bit.
+static void stepped(void) {
     CHECK(MADE(pgp_open(&session)) == PGP_DONE);
     outage();
     worked();
     remains();
     entries();
     CHECK(pgp_close(&session) == PGP_DONE);
-    CHECK(pgp_version() == 200);
+}
+
+// Runs a part, and where calls are refused once more for each of its calls. Gives their number.
+static long run(void (*part)(void)) {
+    calls = 0;
+    part();
+    long number = refuses ? calls : 0;
+    for (refused = 1; refused <= number; refused++) {
+        calls = 0;
+        part();
+    }
+    refused = 0;
+    return number;
 }
 
 int main(int argc, char **argv) {
-    all();
-    long number = argc > 1 && strcmp(argv[1], "refuse") == 0 ? calls : 0;
-    for (refused = 1; refused <= number; refused++) all();
-    refused = 0;
-    if (number == 0) full();
+    refuses = argc > 1 && strcmp(argv[1], "refuse") == 0;
+    long number = run(asked) + run(shortened) + run(stepped) + run(incrementals);
+    CHECK(pgp_version() == 300);
+    if (!refuses) full();
     printf("%ld allocations\n", number);
     return 0;
 }

@@ -1,0 +1,170 @@
+//! A map incremental, as C gives it.
+
+ghost use Rattle.std.specs.Prelude.{◌≡◌};
+ghost use Rattle.std.specs.List.{list_all};
+ghost use Rattle.pgp_lines.specs.Format.{has_after, has_alg, has_tree};
+ghost use Rattle.pgp_c.specs.Each.{IsGiven, IsPut};
+ghost use Rattle.pgp_c.specs.Inc.{SubmitsTold, after_of, no_change, told_inc, tree_in, tree_of, with_devices, with_pools};
+
+use super::devices::{PgpDeviceEpoch, PgpDeviceWeight};
+use super::each::each_of;
+use super::pools::{PgpPool, PgpPoolSizes, PgpTemp};
+use super::status::Status;
+use super::submit::tell;
+use super::tree::PgpBucket;
+use pgp_core::Session;
+use pgp_ids::{BucketAlg, BucketSpec, Entry, Epoch, Incremental, Seq};
+use pgp_lines::Format;
+use std::alloc::Global;
+
+/// A map incremental. Its parts are those of [`Incremental`].
+#[repr(C)]
+pub struct PgpInc<'a> {
+    pub epoch: u32,
+    pub after: u32,
+    pub up: &'a [u32],
+    pub down: &'a [u32],
+    pub gone: &'a [u32],
+    pub weight: &'a [PgpDeviceWeight],
+    pub up_thru: &'a [PgpDeviceEpoch],
+    pub lost: &'a [PgpDeviceEpoch],
+    pub pools: &'a [PgpPool],
+    pub sizes: &'a [PgpPoolSizes],
+    pub temp: &'a [PgpTemp],
+    /// The buckets of the tree that replaces the old one; without a bucket the old one stays.
+    pub crush: &'a [PgpBucket<'a>],
+}
+
+/// Adds an incremental to the session's log.
+pub fn submit_inc(alloc: Global, session: &mut Session, given: &PgpInc<'_>) -> u32
+    ensures { SubmitsTold (told_inc session.old.format given.now) session.old session.new result }
+{
+    match inc_of(alloc, session.format(), given) {
+        Ok(inc) => tell(session, Entry::Inc(inc)),
+        Err(status) => status.number(),
+    }
+}
+
+/// The incremental, where a session that reads lines up to this version may be told of it.
+fn inc_of(alloc: Global, format: Format, given: &PgpInc<'_>) -> Result<Incremental, Status>
+    ensures { IsGiven result (told_inc format given.now) }
+{
+    let after = after_of(format, given)?;
+    let tree = tree_in(alloc, format, given)?;
+    let mut inc = no_change(alloc, after, given.epoch);
+    put_devices(alloc, given, &mut inc)?;
+    put_pools(alloc, given, &mut inc)?;
+    inc.crush = tree;
+    Ok(inc)
+}
+
+/// The epoch of the map that it changes.
+fn after_of(format: Format, given: &PgpInc<'_>) -> Result<u32, Status>
+    ensures { IsGiven result (after_of format given.now) }
+{
+    if is_three(format) || given.after == given.epoch.saturating_sub(1) {
+        Ok(given.after)
+    } else {
+        Err(Status::BadArgument)
+    }
+}
+
+/// Whether it is the version that has incrementals which pass over epochs.
+fn is_three(format: Format) -> bool
+    ensures { result ≡ has_after format }
+{
+    matches!(format, Format::Three)
+}
+
+/// An incremental that changes nothing.
+fn no_change(alloc: Global, after: u32, epoch: u32) -> Incremental
+    ensures { result ≡ no_change after epoch }
+{
+    Incremental {
+        after: Epoch::new(after),
+        epoch: Epoch::new(epoch),
+        up: Seq::new(alloc),
+        down: Seq::new(alloc),
+        gone: Seq::new(alloc),
+        weight: Seq::new(alloc),
+        up_thru: Seq::new(alloc),
+        lost: Seq::new(alloc),
+        pools: Seq::new(alloc),
+        sizes: Seq::new(alloc),
+        temp: Seq::new(alloc),
+        crush: None,
+    }
+}
+
+/// Puts in what it says of devices.
+fn put_devices(alloc: Global, given: &PgpInc<'_>, inc: &mut Incremental) -> Result<(), Status>
+    ensures { IsPut result (with_devices given.now inc.old) inc.new }
+{
+    inc.up = each_of(alloc, given.up)?;
+    inc.down = each_of(alloc, given.down)?;
+    inc.gone = each_of(alloc, given.gone)?;
+    inc.weight = each_of(alloc, given.weight)?;
+    inc.up_thru = each_of(alloc, given.up_thru)?;
+    inc.lost = each_of(alloc, given.lost)?;
+    Ok(())
+}
+
+/// Puts in what it says of pools and groups.
+fn put_pools(alloc: Global, given: &PgpInc<'_>, inc: &mut Incremental) -> Result<(), Status>
+    ensures { IsPut result (with_pools given.now inc.old) inc.new }
+{
+    inc.pools = each_of(alloc, given.pools)?;
+    inc.sizes = each_of(alloc, given.sizes)?;
+    inc.temp = each_of(alloc, given.temp)?;
+    Ok(())
+}
+
+/// The tree, where the version has each of its buckets.
+fn tree_in(
+    alloc: Global,
+    format: Format,
+    given: &PgpInc<'_>,
+) -> Result<Option<Seq<BucketSpec>>, Status>
+    ensures { IsGiven result (tree_in format given.now) }
+{
+    let tree = tree_of(alloc, given.crush)?;
+    if !has_tree(format, &tree) {
+        return Err(Status::BadArgument);
+    }
+    Ok(tree)
+}
+
+/// The tree of these buckets, where there is one.
+fn tree_of(alloc: Global, buckets: &[PgpBucket<'_>]) -> Result<Option<Seq<BucketSpec>>, Status>
+    ensures { IsGiven result (tree_of buckets.now) }
+{
+    if buckets.is_empty() {
+        return Ok(None);
+    }
+    Ok(Some(each_of(alloc, buckets)?))
+}
+
+/// Whether a line of this version can have each bucket of the tree, where there is one.
+fn has_tree(format: Format, tree: &Option<Seq<BucketSpec>>) -> bool
+    ensures { result ≡ has_tree format tree.now }
+{
+    match tree {
+        Some(buckets) => has_buckets(format, buckets.as_slice()),
+        None => true,
+    }
+}
+
+fn has_buckets(format: Format, buckets: &[BucketSpec]) -> bool
+    ensures { result ≡ list_all (λ bucket. has_alg format bucket.alg) buckets.now }
+{
+    buckets.iter().all(|bucket| has_alg(format, bucket.alg))
+}
+
+fn has_alg(format: Format, alg: BucketAlg) -> bool
+    ensures { result ≡ has_alg format alg }
+{
+    match alg {
+        BucketAlg::Uniform | BucketAlg::List => true,
+        BucketAlg::Straw2 => format.number() >= 3,
+    }
+}
