@@ -5,11 +5,11 @@ use Rattle.pgp_c.specs.declared.status.Status.{Status}
 use Rattle.pgp_c.specs.declared.status.Status.TheVariants.{Done, RoomTooSmall, NoMemory, NotOpen, AlreadyOpen, BadArgument, NoList, NoLines}
 
 -- the values that C gives, where each is one
-abbrev pub each : {A B : Type 0} → (A → Option B) → List A → Option (List B)
-each of_c [] = Some []
-each of_c (it ∷ more) = do
+abbrev pub each_given : {A B : Type 0} → (A → Option B) → List A → Option (List B)
+each_given of_c [] = Some []
+each_given of_c (it ∷ more) = do
   value ← of_c it
-  values ← each of_c more
+  values ← each_given of_c more
   Some (value ∷ values)
 
 -- why nothing was made of what C gives: it is no value, or there was no memory, whatever it is
@@ -29,5 +29,5 @@ IsGiven (Ok made) value = value ≡ Some made
 IsGiven (Err status) value = IsWhy status value
 
 -- the same of what was put in a place, where this is then
-abbrev pub IsPut : {A : Type 0} → Result (Unit {0}) Status → Option A → A → Type 0
-IsPut result value new = OnOk result (value ≡ Some new) × IfErr result (λ status. IsWhy status value)
+abbrev pub PutsGiven : {A : Type 0} → Result (Unit {0}) Status → Option A → A → Type 0
+PutsGiven result value new = OnOk result (value ≡ Some new) × IfErr result (λ status. IsWhy status value)

@@ -11,31 +11,31 @@ use Rattle.pgp_core.specs.declared.outcome.LineOutcome.TheVariants.{Blank, Taken
 use Rattle.pgp_c.specs.Status.{status_number}
 use Rattle.pgp_c.specs.declared.status.Status.TheVariants.{Done, NoMemory, AlreadyOpen, BadArgument}
 
-abbrev pub is_refusal : LineOutcome → Bool
-is_refusal Blank = false
-is_refusal Taken = false
-is_refusal Asked = false
-is_refusal (Refused why) = true
+abbrev pub is_refused_outcome : LineOutcome → Bool
+is_refused_outcome Blank = false
+is_refused_outcome Taken = false
+is_refused_outcome Asked = false
+is_refused_outcome (Refused why) = true
 
 -- whether the line is refused, given the log before it
-pub record IsRefused (format : Format) (log : List Entry) (line : List ℕ) (refused : Bool) : Type 0 where
+pub record IsLineRefused (format : Format) (log : List Entry) (line : List ℕ) (refused : Bool) : Type 0 where
   pub outcome : LineOutcome
   pub is : IsOutcome format log line outcome
-  pub refused_is : refused ≡ is_refusal outcome
+  pub refused_is : refused ≡ is_refused_outcome outcome
 
 -- of each line what it is to the log of those before it
-abbrev pub AreOutcomes : Format → List Entry → List (List ℕ) → List LineOutcome → Type 0
-AreOutcomes format log [] [] = Unit {0}
-AreOutcomes format log [] (outcome ∷ more) = ⊥
-AreOutcomes format log (line ∷ lines) [] = ⊥
-AreOutcomes format log (line ∷ lines) (outcome ∷ more) =
-    IsOutcome format log line outcome × AreOutcomes format (with_added log (added_by format log line)) lines more
+abbrev pub AreLineOutcomes : Format → List Entry → List (List ℕ) → List LineOutcome → Type 0
+AreLineOutcomes format log [] [] = Unit {0}
+AreLineOutcomes format log [] (outcome ∷ more) = ⊥
+AreLineOutcomes format log (line ∷ lines) [] = ⊥
+AreLineOutcomes format log (line ∷ lines) (outcome ∷ more) =
+    IsOutcome format log line outcome × AreLineOutcomes format (with_added log (added_by format log line)) lines more
 
 -- a run would refuse this many of the lines
 pub record AreRefused (format : Format) (log : List Entry) (lines : List (List ℕ)) (refused : ℕ) : Type 0 where
   pub outcomes : List LineOutcome
-  pub are : AreOutcomes format log lines outcomes
-  pub count : refused ≡ count_by is_refusal outcomes
+  pub are : AreLineOutcomes format log lines outcomes
+  pub count : refused ≡ count_by is_refused_outcome outcomes
 
 -- The lines were read into a session, which goes from `was` to `now`.
 pub record HasReadLines (was now : LogAndAnswer) (lines : List (List ℕ)) (refused : ℕ) : Type 0 where

@@ -12,7 +12,7 @@ use Rattle.pgp_ids.specs.declared.pool.PoolSpec.{PoolSpec}
 use Rattle.pgp_lines.specs.Shapes.{◌>>=◌}
 use Rattle.pgp_c.specs.Ask.{group}
 use Rattle.pgp_c.specs.Devices.{osd_of}
-use Rattle.pgp_c.specs.Each.{each}
+use Rattle.pgp_c.specs.Each.{each_given}
 use Rattle.pgp_c.specs.declared.pools.PgpPart.{PgpPart}
 use Rattle.pgp_c.specs.declared.pools.PgpPool.{PgpPool}
 use Rattle.pgp_c.specs.declared.pools.PgpPoolSizes.{PgpPoolSizes}
@@ -38,21 +38,21 @@ are_slots slots = list_all (λ slot. nat_le slot 15) slots
 abbrev pub part_with : ℕ → List ℕ → Option Part
 part_with least slots = if are_slots slots then Some (record { slots = set_of slots; least = least; twice = has_twice slots }) else None
 
-abbrev pub part_of : PgpPart → Option Part
-part_of given = do
+abbrev pub given_part : PgpPart → Option Part
+given_part given = do
   slots ← first_items given.slots_length given.slots
   part_with given.least slots
 
 -- 16 places, the first of which hold these parts; the others are empty
-abbrev pub places_of : List Part → List (Option Part)
-places_of parts = map (λ place. slice_get parts place) (range_with_len 0 16)
+abbrev pub given_parts : List Part → List (Option Part)
+given_parts parts = map (λ place. slice_get parts place) (range_with_len 0 16)
 
 -- the parts of a grouped pool
 abbrev pub groups_of : PgpPool → Option (List (Option Part))
 groups_of given = do
   first ← first_items given.parts_length given.parts
-  parts ← each part_of first
-  Some (places_of parts)
+  parts ← each_given given_part first
+  Some (given_parts parts)
 
 -- how a pool keeps its objects
 abbrev pub kind_of : PgpPool → Option PoolKind
@@ -76,12 +76,12 @@ abbrev pub pool_sizes_of : PgpPoolSizes → Option PoolSizes
 pool_sizes_of given = option_map (λ pool. record { pool = pool; size = given.size; min_size = given.min_size }) (pool_at given.pool)
 
 -- a place of a list of devices
-abbrev pub place_of : ℕ → Option (Option ℕ)
-place_of number = if nat_eq number 65535 then Some None else option_map Some (osd_of number)
+abbrev pub given_place : ℕ → Option (Option ℕ)
+given_place number = if nat_eq number 65535 then Some None else option_map Some (osd_of number)
 
 abbrev pub temp_of : PgpTemp → Option TempList
 temp_of given = do
   pg ← group_at given.pool given.pg
   first ← first_items given.length given.osds
-  osds ← each place_of first
+  osds ← each_given given_place first
   Some (record { pg = pg; osds = osds })

@@ -18,12 +18,12 @@ use Rattle.pgp_c.specs.declared.report.PgpReport.{PgpReport}
 use Rattle.pgp_c.specs.declared.status.Status.TheVariants.{NoMemory, NotOpen, BadArgument}
 
 -- the name that a log entry has
-abbrev pub name_bytes : PgpLogEntry → List ℕ
-name_bytes it = take it.name_length it.name
+abbrev pub given_name : PgpLogEntry → List ℕ
+given_name it = take it.name_length it.name
 
 -- the numbers and the name are those of a log entry
 abbrev pub is_log_entry : PgpLogEntry → Bool
-is_log_entry it = nat_le it.deletes 1 && (nat_le 1 it.name_length && is_utf8 (name_bytes it))
+is_log_entry it = nat_le it.deletes 1 && (nat_le 1 it.name_length && is_utf8 (given_name it))
 
 abbrev pub change_of : ℕ → Change
 change_of deletes = if nat_eq deletes 1 then Delete else Modify
@@ -32,7 +32,7 @@ abbrev pub told_log_entry : PgpLogEntry → LogEntry
 told_log_entry it = record {
   version = record { epoch = it.epoch; v = it.number };
   change = change_of it.deletes;
-  object = name_bytes it;
+  object = given_name it;
 }
 
 -- the numbers and names are those of a part of a log

@@ -3,15 +3,15 @@ use Rattle.std.specs.Prelude.{ℕ, ℤ, pos, negsuc, int_le, ◌&&◌, List, [],
 use Rattle.pgp_ids.specs.declared.bucket.BucketAlg.{BucketAlg}
 use Rattle.pgp_ids.specs.declared.bucket.BucketAlg.TheVariants.{Uniform, List as Weighed, Straw2}
 use Rattle.pgp_ids.specs.declared.bucket.BucketSpec.{BucketSpec}
-use Rattle.pgp_lines.specs.MadeBucket.{bucket_of as made_bucket}
+use Rattle.pgp_lines.specs.MadeBucket.{bucket_from as made_bucket}
 use Rattle.pgp_lines.specs.Shapes.{◌>>=◌}
-use Rattle.pgp_c.specs.Each.{each}
+use Rattle.pgp_c.specs.Each.{each_given}
 use Rattle.pgp_c.specs.declared.tree.PgpBucket.{PgpBucket}
 use Rattle.pgp_c.specs.declared.tree.PgpItem.{PgpItem}
 
 -- how a bucket of this number chooses
-abbrev pub alg_of : ℕ → Option BucketAlg
-alg_of number = if nat_eq number 0 then Some Uniform else (if nat_eq number 1 then Some Weighed else (if nat_eq number 2 then Some Straw2 else None))
+abbrev pub alg_numbered : ℕ → Option BucketAlg
+alg_numbered number = if nat_eq number 0 then Some Uniform else (if nat_eq number 1 then Some Weighed else (if nat_eq number 2 then Some Straw2 else None))
 
 -- a bucket by its id, or a device by its number
 abbrev pub item_of : PgpItem → Option ℤ
@@ -23,12 +23,12 @@ weight_of given = Some given.weight
 -- the weights of the items, of which a uniform bucket has none
 abbrev pub weights_of : BucketAlg → List PgpItem → Option (List ℕ)
 weights_of Uniform items = Some []
-weights_of Weighed items = each weight_of items
-weights_of Straw2 items = each weight_of items
+weights_of Weighed items = each_given weight_of items
+weights_of Straw2 items = each_given weight_of items
 
-abbrev pub bucket_of : PgpBucket → Option BucketSpec
-bucket_of given = do
-  alg ← alg_of given.alg
-  items ← each item_of given.items.now
+abbrev pub given_bucket : PgpBucket → Option BucketSpec
+given_bucket given = do
+  alg ← alg_numbered given.alg
+  items ← each_given item_of given.items.now
   weights ← weights_of alg given.items.now
   made_bucket given.id given.kind alg items weights

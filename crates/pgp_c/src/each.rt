@@ -1,7 +1,7 @@
 //! Lists, as C reads and gives them.
 
 ghost use Rattle.std.specs.Prelude.{◌≡◌, Option, length, map};
-ghost use Rattle.pgp_c.specs.Each.{IsGiven, each};
+ghost use Rattle.pgp_c.specs.Each.{IsGiven, each_given};
 ghost use Rattle.pgp_c.specs.Exports.{put_into, put_status};
 
 use super::status::Status;
@@ -46,7 +46,7 @@ pub trait OfC<C>: Sized {
 
 /// The values that C gives.
 pub fn each_of<T: OfC<C> + Drop, C>(alloc: Global, given: &[C]) -> Result<Seq<T>, Status>
-    ensures { IsGiven result (each T.of_c given.now) }
+    ensures { IsGiven result (each_given T.of_c given.now) }
 {
     let mut values = Seq::new(alloc);
     for it in given {

@@ -3,8 +3,8 @@
 ghost use Rattle.std.specs.Prelude.{◌≡◌};
 ghost use Rattle.std.specs.List.{list_all};
 ghost use Rattle.pgp_lines.specs.Format.{has_after, has_alg, has_tree};
-ghost use Rattle.pgp_c.specs.Each.{IsGiven, IsPut};
-ghost use Rattle.pgp_c.specs.Inc.{SubmitsTold, after_of, no_change, told_inc, tree_in, tree_of, with_devices, with_pools};
+ghost use Rattle.pgp_c.specs.Each.{IsGiven, PutsGiven};
+ghost use Rattle.pgp_c.specs.Inc.{SubmitsGiven, after_of, given_inc, allowed_tree, tree_of, with_devices, with_given_pools};
 
 use super::devices::{PgpDeviceEpoch, PgpDeviceWeight};
 use super::each::each_of;
@@ -37,7 +37,7 @@ pub struct PgpInc<'a> {
 
 /// Adds an incremental to the session's log.
 pub fn submit_inc(alloc: Global, session: &mut Session, given: &PgpInc<'_>) -> u32
-    ensures { SubmitsTold (told_inc session.old.format given.now) session.old session.new result }
+    ensures { SubmitsGiven (given_inc session.old.format given.now) session.old session.new result }
 {
     match inc_of(alloc, session.format(), given) {
         Ok(inc) => tell(session, Entry::Inc(inc)),
@@ -47,11 +47,11 @@ pub fn submit_inc(alloc: Global, session: &mut Session, given: &PgpInc<'_>) -> u
 
 /// The incremental, where a session that reads lines up to this version may be told of it.
 fn inc_of(alloc: Global, format: Format, given: &PgpInc<'_>) -> Result<Incremental, Status>
-    ensures { IsGiven result (told_inc format given.now) }
+    ensures { IsGiven result (given_inc format given.now) }
 {
     let after = after_of(format, given)?;
     let tree = tree_in(alloc, format, given)?;
-    let mut inc = no_change(alloc, after, given.epoch);
+    let mut inc = Incremental::empty(alloc, Epoch::new(after), Epoch::new(given.epoch));
     put_devices(alloc, given, &mut inc)?;
     put_pools(alloc, given, &mut inc)?;
     inc.crush = tree;
@@ -76,29 +76,9 @@ fn is_three(format: Format) -> bool
     matches!(format, Format::Three)
 }
 
-/// An incremental that changes nothing.
-fn no_change(alloc: Global, after: u32, epoch: u32) -> Incremental
-    ensures { result ≡ no_change after epoch }
-{
-    Incremental {
-        after: Epoch::new(after),
-        epoch: Epoch::new(epoch),
-        up: Seq::new(alloc),
-        down: Seq::new(alloc),
-        gone: Seq::new(alloc),
-        weight: Seq::new(alloc),
-        up_thru: Seq::new(alloc),
-        lost: Seq::new(alloc),
-        pools: Seq::new(alloc),
-        sizes: Seq::new(alloc),
-        temp: Seq::new(alloc),
-        crush: None,
-    }
-}
-
 /// Puts in what it says of devices.
 fn put_devices(alloc: Global, given: &PgpInc<'_>, inc: &mut Incremental) -> Result<(), Status>
-    ensures { IsPut result (with_devices given.now inc.old) inc.new }
+    ensures { PutsGiven result (with_devices given.now inc.old) inc.new }
 {
     inc.up = each_of(alloc, given.up)?;
     inc.down = each_of(alloc, given.down)?;
@@ -111,7 +91,7 @@ fn put_devices(alloc: Global, given: &PgpInc<'_>, inc: &mut Incremental) -> Resu
 
 /// Puts in what it says of pools and groups.
 fn put_pools(alloc: Global, given: &PgpInc<'_>, inc: &mut Incremental) -> Result<(), Status>
-    ensures { IsPut result (with_pools given.now inc.old) inc.new }
+    ensures { PutsGiven result (with_given_pools given.now inc.old) inc.new }
 {
     inc.pools = each_of(alloc, given.pools)?;
     inc.sizes = each_of(alloc, given.sizes)?;
@@ -125,7 +105,7 @@ fn tree_in(
     format: Format,
     given: &PgpInc<'_>,
 ) -> Result<Option<Seq<BucketSpec>>, Status>
-    ensures { IsGiven result (tree_in format given.now) }
+    ensures { IsGiven result (allowed_tree format given.now) }
 {
     let tree = tree_of(alloc, given.crush)?;
     if !has_tree(format, &tree) {

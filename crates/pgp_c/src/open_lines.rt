@@ -3,7 +3,7 @@
 ghost use Rattle.std.specs.Prelude.{◌≡◌, ◌≤◌, if◌then◌else◌, IfOk, OnOk};
 ghost use Rattle.pgp_core.specs.Added.{added_by, with_added};
 ghost use Rattle.pgp_core.specs.Lines.{lines_of};
-ghost use Rattle.pgp_c.specs.OpenLines.{BeginsWith, HasReadLines, IsRefused, OpensLines, is_refusal};
+ghost use Rattle.pgp_c.specs.OpenLines.{BeginsWith, HasReadLines, IsLineRefused, OpensLines, is_refused_outcome};
 
 use super::session::PgpSession;
 use super::status::Status;
@@ -65,7 +65,7 @@ fn read_lines(session: &mut Session, text: &[u8]) -> Result<usize, AllocError>
 
 /// Has the session read a line, and answers whether it is refused.
 fn read_line(session: &mut Session, line: &[u8]) -> Result<bool, AllocError>
-    ensures refused { IfOk result (IsRefused session.old.format session.old.log line.now) }
+    ensures refused { IfOk result (IsLineRefused session.old.format session.old.log line.now) }
     ensures log { OnOk result (session.new.log ≡ with_added session.old.log (added_by session.old.format session.old.log line.now)) }
     ensures answer { session.new.answer ≡ session.old.answer }
     ensures format { session.new.format ≡ session.old.format }
@@ -76,7 +76,7 @@ fn read_line(session: &mut Session, line: &[u8]) -> Result<bool, AllocError>
 
 /// The line is refused.
 fn is_refusal(outcome: &LineOutcome) -> bool
-    ensures { result ≡ is_refusal outcome.now }
+    ensures { result ≡ is_refused_outcome outcome.now }
 {
     matches!(outcome, LineOutcome::Refused(_))
 }

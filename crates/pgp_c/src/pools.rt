@@ -2,7 +2,7 @@
 
 ghost use Rattle.std.specs.Prelude.{◌≡◌, slice_get};
 ghost use Rattle.pgp_c.specs.Each.{IsGiven};
-ghost use Rattle.pgp_c.specs.Pools.{are_slots, group_at, groups_of, kind_of, part_of, part_with, pg_num_of, place_of, places_of, pool_at, pool_of, pool_sizes_of, temp_of};
+ghost use Rattle.pgp_c.specs.Pools.{are_slots, group_at, groups_of, kind_of, given_part, part_with, pg_num_of, given_place, given_parts, pool_at, pool_of, pool_sizes_of, temp_of};
 
 use super::ask::group_of;
 use super::each::{OfC, each_of};
@@ -137,7 +137,7 @@ fn groups_of(alloc: Global, given: &PgpPool) -> Result<Parts, Status>
 
 /// The parts in the first places.
 fn places_of(parts: &[Part]) -> [Option<Part>; MAX_PARTS]
-    ensures { result ≡ places_of parts.now }
+    ensures { result ≡ given_parts parts.now }
 {
     [
         part_at(parts, 0),
@@ -167,7 +167,7 @@ fn part_at(parts: &[Part], place: usize) -> Option<Part>
 }
 
 impl OfC<PgpPart> for Part {
-    ghost of_c = { part_of };
+    ghost of_c = { given_part };
 
     fn of_c(_alloc: Global, given: &PgpPart) -> Result<Part, Status> {
         if given.slots_length > ROOM {
@@ -227,7 +227,7 @@ fn group_at(pool: u32, pg: u32) -> Result<PgId, Status>
 }
 
 impl OfC<u16> for Place {
-    ghost of_c = { place_of };
+    ghost of_c = { given_place };
 
     fn of_c(_alloc: Global, given: &u16) -> Result<Place, Status> {
         if *given == NO_DEVICE {

@@ -3,7 +3,7 @@
 ghost use Rattle.std.specs.Prelude.{◌≡◌, ◌↔◌, true, map, IsSome, IfSome, IfOk, OnErr};
 ghost use Rattle.std.specs.List.{list_all};
 ghost use Rattle.std.specs.Str.{is_utf8};
-ghost use Rattle.pgp_c.specs.Report.{IsReport, SubmitsReport, change_of, is_log_entry, name_bytes, told_log_entry, told_report};
+ghost use Rattle.pgp_c.specs.Report.{IsReport, SubmitsReport, change_of, is_log_entry, given_name, told_log_entry, told_report};
 
 use super::ask::group_of;
 use super::info::{member_of, version_of};
@@ -116,7 +116,7 @@ fn is_text(bytes: &[u8]) -> bool
 
 /// The bytes of the name.
 fn name_bytes(entry: &PgpLogEntry) -> &[u8]
-    ensures { result.now ≡ name_bytes entry.now }
+    ensures { result.now ≡ given_name entry.now }
 {
     &entry.name[..usize::from(entry.name_length)]
 }
@@ -160,7 +160,7 @@ fn change_of(deletes: u8) -> Change
 /// The name of the object.
 fn name_of(alloc: Global, entry: &PgpLogEntry) -> Result<ObjectName, AllocError>
     requires { is_log_entry entry.now ≡ true }
-    ensures { IfOk result (λ name. name ≡ name_bytes entry.now) }
+    ensures { IfOk result (λ name. name ≡ given_name entry.now) }
 {
     match from_utf8(name_bytes(entry)) {
         Ok(text) => match ObjectName::new(alloc, text)? {

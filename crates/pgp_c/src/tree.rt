@@ -1,8 +1,8 @@
 //! The placement tree of a map incremental, as C gives it.
 
 ghost use Rattle.pgp_c.specs.Each.{IsGiven};
-ghost use Rattle.pgp_lines.specs.MadeBucket.{bucket_of as made_bucket};
-ghost use Rattle.pgp_c.specs.Tree.{alg_of, bucket_of, item_of, weight_of, weights_of};
+ghost use Rattle.pgp_lines.specs.MadeBucket.{bucket_from as made_bucket};
+ghost use Rattle.pgp_c.specs.Tree.{alg_numbered, given_bucket, item_of, weight_of, weights_of};
 
 use super::each::{OfC, each_of};
 use super::status::Status;
@@ -54,7 +54,7 @@ impl OfC<PgpItem> for u32 {
 }
 
 impl<'a> OfC<PgpBucket<'a>> for BucketSpec {
-    ghost of_c = { bucket_of };
+    ghost of_c = { given_bucket };
 
     fn of_c(alloc: Global, given: &PgpBucket<'a>) -> Result<BucketSpec, Status> {
         let alg = alg_of(given.alg)?;
@@ -66,7 +66,7 @@ impl<'a> OfC<PgpBucket<'a>> for BucketSpec {
 
 /// How a bucket of this number chooses.
 fn alg_of(number: u8) -> Result<BucketAlg, Status>
-    ensures { IsGiven result (alg_of number) }
+    ensures { IsGiven result (alg_numbered number) }
 {
     match number {
         0 => Ok(BucketAlg::Uniform),

@@ -56,7 +56,7 @@ placed : (groups : List (Option Part)) (want : Bool) (answer : want_slots groups
 placed groups true answer = refl
 placed groups false answer = refl
 
-pub is_by_place-code_of : (kind : PoolKind) → is_by_place (code_of kind) ≡ pool.is_by_place kind
+pub is_by_place-code_of : (kind : PoolKind) → is_by_place (code_of kind) ≡ pool.is_kind_by_place kind
 is_by_place-code_of kind.Replicated = refl
 is_by_place-code_of (kind.Erasure zero) = refl
 is_by_place-code_of (kind.Erasure (suc k)) = refl

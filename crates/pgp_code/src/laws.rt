@@ -47,7 +47,7 @@ pub fn pools_have_their_parts()
 /// A pool's code places members as the pool does.
 #[tactic(auto, using(crate::proofs::PoolLemmas::pool_laws))]
 pub fn codes_place_as_pools()
-    ensures { (kind : PoolKind) → is_by_place (code_of kind) ≡ pool.is_by_place kind }
+    ensures { (kind : PoolKind) → is_by_place (code_of kind) ≡ pool.is_kind_by_place kind }
 {}
 
 /// Where slots aren't enough, no part of them is, by any code.

@@ -1,5 +1,5 @@
 -- Whatever entries follow, a log and the same log compacted give the same views.
-use Rattle.pgp_compact.proofs.Common.{AnyCode, Bool, Contains, Contains-here, Contains-later, Entry, EpochState, GroupLog, History, Incremental, Info, IsAfter, List, Member, None, PgId, Report, Some, Span, Verdict, [], ap, ap₂, are_checked, are_whole, arith, best, best_info, by_number, can_write, cases_Bool, compacted, counts_by, ends_at, enough_of, epoch, false, filter, filter-append, filter-contains, filter_map, filter_map-append, filter_map-from, fold, fold-append, fold_max-least, front-checked, group_history, group_in, group_with, has_member, has_number, heard, histories, history-last, holds, if◌then◌else◌, incs, incs_of, info_by, info_of, infos, infos_in, infos_of, inr, is_after, is_by_place, is_clean_from, is_counted, is_of, is_recorded, is_same_group, is_same_member, is_some, last_of_each_member, last_where, last_where-some, leader, length, les, list_any, list_any-append, log-in, map, map-agree, map-append, map_some, max, nat_le, nat_tests, needed_of, not, epochs_ascend, option_and_then, option_map, option_map_or, past, past_ending, past_ends, past_intervals, peer_state_by, peer_states, prefers, present_members, prior, refl, report_of, reported, reports_in, reports_of, scratch, state_at, sym, true, view_of, wants_clean, was_clean, whole_best, with_count, within, ℕ, ◌&&◌, ◌++◌, ◌||◌, ◌∙◌, ◌∷◌, ◌≡◌, ◌≤◌}
+use Rattle.pgp_compact.proofs.Common.{AnyCode, Bool, Contains, Contains-here, Contains-later, Entry, EpochState, GroupLog, History, Incremental, Info, IsAfter, List, Member, None, PgId, Report, Some, Span, Verdict, [], ap, ap₂, are_checked, are_whole, arith, best, best_info, by_number, can_write, cases_Bool, compacted, counts_by, ends_at, enough_of, epoch, false, filter, filter-append, filter-contains, filter_map, filter_map-append, filter_map-from, fold, fold-append, fold_max-least, front-checked, group_history, group_in, group_with, has_member, has_number, heard, histories, history-last, verdict_holds, if◌then◌else◌, incs, incs_of, info_by, info_of, infos, infos_in, infos_of, inr, is_after, is_by_place, is_clean_from, is_counted, is_of, is_recorded, is_same_group, is_same_member, is_some, last_of_each_member, last_where, last_where-some, leader, length, les, list_any, list_any-append, log-in, map, map-agree, map-append, map_some, max, nat_le, nat_tests, needed_of, not, epochs_ascend, option_and_then, option_map, option_map_or, past, past_ending, past_ends, past_intervals, peer_state_by, peer_states, prefers, present_members, prior, refl, report_of, reported, reports_in, reports_of, scratch, state_at, sym, true, view_of, wants_clean, was_clean, whole_best, with_count, within, ℕ, ◌&&◌, ◌++◌, ◌||◌, ◌∙◌, ◌∷◌, ◌≡◌, ◌≤◌}
 use Rattle.pgp_compact.proofs.IntervalLemmas.{CanMatter, history-goes_on, span_ending}
 use Rattle.pgp_compact.proofs.NeededLemmas.{NeedsLast, needed-any}
 use Rattle.pgp_compact.proofs.NumberLemmas.{entries_in, has}
@@ -193,13 +193,13 @@ module _ (never : NeverCountsAgain) (log more : List Entry) (pg : PgId) (after :
   has_member-alike : (member : Member) → has_member member (heard whole) ≡ has_member member (heard less)
   has_member-alike member = ap (has_member member) heard-same
 
-  holds-alike : (v : Verdict) → holds whole v ≡ holds less v
+  holds-alike : (v : Verdict) → verdict_holds whole v ≡ verdict_holds less v
   holds-alike the.Waiting = λ i. list_any (λ member. not (has_member-alike member i)) (prior-alike i).probe
   holds-alike v = grind (arith, incs-alike, prior-alike, best-alike, whole_best-alike)
 
   view-alike : with_count (length less.log) (view_of whole) ≡ view_of less
   view-alike =
-      let same : holds whole ≡ holds less = λ i v. holds-alike v i in
+      let same : verdict_holds whole ≡ verdict_holds less = λ i v. holds-alike v i in
       cc (incs-alike, les-alike, past-alike, prior-alike, best-alike, states-alike)
 
 pub same-answer : NeverCountsAgain → (log more : List Entry) (pg : PgId) → are_checked (incs_of (log ++ more)) ≡ true → IsSent log

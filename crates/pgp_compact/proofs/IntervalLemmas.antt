@@ -1,5 +1,5 @@
 -- Intervals stay as the history goes on, and lie one after another.
-use Rattle.pgp_compact.proofs.Common.{AnyCode, Bool, Contains, GroupLog, HasReached, History, Incremental, LieEndToEnd, List, Membership, Past, PgId, PrimaryFacts, Some, Span, [], along, ap, ap₂, are_checked, arith, cases_Bool, cases_lt, clean_spans, contains-any, contains-filter, contains-map, contains-push, current_span, current_state, ends_at, enough_of, filter, filter-contains, front-checked, get_or_append_left, get_or_default, get_or_push, group_history, grown, grown-more, grown_with, history-grows, incs, inl, inr, is_by_place, is_in_span, last-checked, last_place, length_push, les, lie_end_to_end, list_any, list_any-append, map, map-contains, map_some, members_at-last_place, membership, nat_le, nat_tests, not, epochs_ascend, opening_of, opening_of-le, opening_of-opens, opening_of-stays, opens_at, or-true, passed_over, past_ending, past_ends, past_intervals, past_of, past_spans, primary_facts, range_with_len, refl, span_of, state_at, stepped, subst, suc, sym, then_with, true, wants_clean, zero, ℕ, ◌&&◌, ◌++◌, ◌+◌, ◌<◌, ◌||◌, ◌∙◌, ◌∷◌, ◌≡◌, ◌≤◌, ◌⊎◌, range-contains}
+use Rattle.pgp_compact.proofs.Common.{AnyCode, Bool, Contains, GroupLog, HasReached, History, Incremental, LieEndToEnd, List, Membership, Past, PgId, PrimaryFacts, Some, Span, [], along, ap, ap₂, are_checked, arith, cases_Bool, cases_lt, clean_spans, contains-any, contains-filter, contains-map, contains-push, current_span, current_state, ends_at, enough_of, filter, filter-contains, front-checked, get_or_append_left, get_or_default, get_or_push, group_history, grown, grown-more, grown_with, history-grows, incs, inl, inr, is_by_place, is_in_span, last-checked, last_place, length_push, les, lie_end_to_end, list_any, list_any-append, map, map-contains, map_some, members_at-last_place, membership, nat_le, nat_tests, not, epochs_ascend, opening_of, opening_of-le, opening_of-opens, opening_of-stays, opens_at, or-true, passed_over, past_ending, past_ends, past_intervals, past_interval, past_spans, primary_facts, range_with_len, refl, span_of, state_at, stepped, subst, suc, sym, then_with, true, wants_clean, zero, ℕ, ◌&&◌, ◌++◌, ◌+◌, ◌<◌, ◌||◌, ◌∙◌, ◌∷◌, ◌≡◌, ◌≤◌, ◌⊎◌, range-contains}
 use Rattle.pgp_compact.proofs.SpanLemmas.{LieApart, apart-lower}
 
 -- ---- a history that goes on
@@ -110,7 +110,7 @@ was-past g after on later rises last ends wants over =
     let p : Past = past_ending enough_of is_by_place [] h last in
     let opens : opening_of after last ≡ opening_of h last = opening-stays h after on last last (omega (arith, over)) (omega arith) (opening_of-le after last) in
     let same : past_ending enough_of is_by_place [] after last ≡ p =
-    λ i. past_of (enough_of (on.code i)) (is_by_place (on.code i)) [] (on.first i + opens i) (on.first i + last) (on.states last over i) in
+    λ i. past_interval (enough_of (on.code i)) (is_by_place (on.code i)) [] (on.first i + opens i) (on.first i + last) (on.states last over i) in
     let then' : wants_clean h.code later p ≡ true = ap₂ (λ (code : AnyCode) (q : Past). wants_clean code later q) (sym on.code) (sym same) ∙ wants in
     let wanted : wants_clean h.code (les g) p ≡ true = wanted-before _ _ (les g) later p.last rises then' in
     let ended = contains-filter (ends_at h) (range_with_len 0 (last_place h)) last (range-contains (last_place h) last over) (sym (on.opens (suc last) (omega (arith, over))) ∙ ends) in

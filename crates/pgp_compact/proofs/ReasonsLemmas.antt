@@ -17,7 +17,7 @@ use Rattle.pgp_reasons.specs.Copies.{copies_of}
 use Rattle.pgp_reasons.specs.Fates.{interval_now}
 use Rattle.pgp_reasons.specs.GroupWays.{brings_back}
 use Rattle.pgp_reasons.specs.Price.{price, price_by}
-use Rattle.pgp_reasons.specs.Reasons.{AreReasons, blocking, clean, copies, gaps, short}
+use Rattle.pgp_reasons.specs.Reasons.{AreReasons, blocking, clean, copies_heard, gaps, short}
 use Rattle.pgp_reasons.specs.Short.{short_of}
 use Rattle.pgp_reasons.specs.Smallest.{AreWays}
 use Rattle.pgp_reasons.specs.Ways.{status_after}
@@ -55,7 +55,7 @@ flag-wants can recorded clean since flag is = grind (arith, nat_tests)
 
 -- ---- all that is said
 
-reasons-by : (a b : GroupLog) → heard a ≡ heard b → blocking a ≡ blocking b → prior a ≡ prior b → brings_back a ≡ brings_back b → clean a ≡ clean b → copies a ≡ copies b → short a ≡ short b → gaps a ≡ gaps b
+reasons-by : (a b : GroupLog) → heard a ≡ heard b → blocking a ≡ blocking b → prior a ≡ prior b → brings_back a ≡ brings_back b → clean a ≡ clean b → copies_heard a ≡ copies_heard b → short a ≡ short b → gaps a ≡ gaps b
     → (reasons : Reasons) → AreReasons a reasons → AreReasons b reasons
 reasons-by a b heard-is blocking-is prior-is back-is clean-is copies-is short-is gaps-is reasons are = record {
   heard_is = are.heard_is ∙ heard-is;
@@ -94,7 +94,7 @@ module _ (never : NeverCountsAgain) (log more : List Entry) (pg : PgId) (after :
   same-back : brings_back old ≡ brings_back new
   same-back = λ i osds. not (is_group_down (enough_of after.code) (is_by_place after.code) (status_after osds [] (status (same-incs i))) (same-les i) (same-past i))
 
-  same-copies : copies old ≡ copies new
+  same-copies : copies_heard old ≡ copies_heard new
   same-copies = λ i. copies_of after.code (best-alike never log more pg after checked then' sent i) (heard-same never log more pg after checked then' sent i)
 
   same-short : short old ≡ short new

@@ -32,15 +32,15 @@ pub record LiesAt (incs : List Incremental) (pg : PgId) (place : GroupPlace) : T
   pub members_are : membership incs pg ≡ Some place.members
 
 -- the device stands in the raw set or in pg_temp
-abbrev pub lies_on : GroupPlace → ℕ → Bool
-lies_on place osd = has_osd osd place.raw || has_osd osd place.temp
+abbrev pub has_device : GroupPlace → ℕ → Bool
+has_device place osd = has_osd osd place.raw || has_osd osd place.temp
 
 -- the group, which lies so, may lie elsewhere by the incremental
 abbrev pub may_leave : GroupPlace → PgId → Incremental → Bool
 may_leave place pg inc =
     moves inc pg.pool
     || changes_temp inc pg
-    || (list_any (lies_on place) inc.up || list_any (lies_on place) inc.down || list_any (lies_on place) inc.gone)
+    || (list_any (has_device place) inc.up || list_any (has_device place) inc.down || list_any (has_device place) inc.gone)
 
 -- ---- the group's intervals
 

@@ -7,7 +7,7 @@ ghost use Rattle.pgp_map.specs.Held.{HasGroup};
 ghost use Rattle.pgp_map.specs.MapFault.{then_with};
 ghost use Rattle.pgp_map.specs.MapOf.{Says};
 ghost use Rattle.pgp_log.specs.RawSets.{IsRawSet};
-ghost use Rattle.pgp_compact.specs.Course.{LiesAt, IsNext, lies_on, may_leave};
+ghost use Rattle.pgp_compact.specs.Course.{LiesAt, IsNext, has_device, may_leave};
 
 use pgp_ids::{Incremental, Membership, OsdId, Osds, PgId};
 use pgp_log::{changes_temp, moves};
@@ -68,8 +68,8 @@ impl GroupPlace {
 
     /// Whether the group may lie on a device that the incremental boots, takes down or destroys.
     fn lies_on_turned(&self, inc: &Incremental) -> bool
-        ensures { result ≡ (list_any (lies_on self.now) inc.now.up || list_any (lies_on self.now) inc.now.down
-            || list_any (lies_on self.now) inc.now.gone) }
+        ensures { result ≡ (list_any (has_device self.now) inc.now.up || list_any (has_device self.now) inc.now.down
+            || list_any (has_device self.now) inc.now.gone) }
     {
         self.lies_on_any(inc.up.as_slice())
             || self.lies_on_any(inc.down.as_slice())
@@ -78,14 +78,14 @@ impl GroupPlace {
 
     /// Whether the group may lie on one of these devices.
     fn lies_on_any(&self, osds: &[OsdId]) -> bool
-        ensures { result ≡ list_any (lies_on self.now) osds.now }
+        ensures { result ≡ list_any (has_device self.now) osds.now }
     {
         osds.iter().any(|osd| self.lies_on(*osd))
     }
 
     /// Whether the group may lie on the device: it stands in the raw set or in pg_temp.
     fn lies_on(&self, osd: OsdId) -> bool
-        ensures { result ≡ lies_on self.now osd }
+        ensures { result ≡ has_device self.now osd }
     {
         has_osd(self.raw.as_slice(), osd) || has_osd(self.temp.as_slice(), osd)
     }

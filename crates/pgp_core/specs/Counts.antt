@@ -17,14 +17,14 @@ is_info (entry.Entries report) = false
 is_info entry.Close = false
 
 -- the entry is a part of a member's log
-abbrev pub is_part : Entry → Bool
-is_part (entry.Inc inc) = false
-is_part (entry.Info info) = false
-is_part (entry.Entries report) = true
-is_part entry.Close = false
+abbrev pub is_report : Entry → Bool
+is_report (entry.Inc inc) = false
+is_report (entry.Info info) = false
+is_report (entry.Entries report) = true
+is_report entry.Close = false
 
 abbrev pub counts_of : List Entry → EntryCounts
-counts_of log = record { incrementals = count_by is_inc log; infos = count_by is_info log; parts = count_by is_part log }
+counts_of log = record { incrementals = count_by is_inc log; infos = count_by is_info log; parts = count_by is_report log }
 
 -- the counts with one entry more
 abbrev pub counts_with : EntryCounts → Entry → EntryCounts

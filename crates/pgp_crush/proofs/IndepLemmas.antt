@@ -16,7 +16,7 @@ use Rattle.pgp_crush.specs.declared.indep.Cell.TheVariants.{Open, Gone, Held}
 use Rattle.pgp_crush.specs.Candidate.{Input}
 use Rattle.pgp_crush.specs.Least.{least_from}
 use Rattle.pgp_crush.specs.Indep.{cell, round_of, stands_before, has_item, has_before, settled_by, settles, IsTable, place_at, IsIndep}
-use Rattle.pgp_crush.specs.Cells.{is_open, holds, after_try, after_look, cells_with, cells_row, cells_after, leaf_held, indep}
+use Rattle.pgp_crush.specs.Cells.{is_open, cell_holds, after_try, after_look, cells_with, cells_row, cells_after, leaf_held, indep}
 use Rattle.pgp_crush.proofs.LeastLemmas.{next_least, least_from-more, least_from-same, least_from-found, least_from-below}
 
 -- ---- one cell after the other
@@ -138,22 +138,22 @@ module _ (i : Input) (n : ℕ) where
         → ((q : ℕ) → q < n → (own : ℕ) → own < looked_at round p q → test q own ≡ ends q own) → settles i n table p round ≡ ends p round
     settles-is round p early within so_far = by_case (cell i n round p)
       where
-        of_held : (item : ℤ) (q : ℕ) (o : Option ℕ) → option_map_or (λ own. has_item item (cell i n own q)) o false ≡ holds item (held_by q o)
+        of_held : (item : ℤ) (q : ℕ) (o : Option ℕ) → option_map_or (λ own. has_item item (cell i n own q)) o false ≡ cell_holds item (held_by q o)
         of_held item q o = grind arith
 
-        one : (item : ℤ) (q : ℕ) → q < n → has_before i n table round p item q ≡ holds item (get_or (before_cell round p) q Open)
+        one : (item : ℤ) (q : ℕ) → q < n → has_before i n table round p item q ≡ cell_holds item (get_or (before_cell round p) q Open)
         one item q h =
             (λ j. option_map_or (λ own. before-is own round p q j && has_item item (cell i n own q)) (is q h j) false)
             ∙ least_from-below (test q) (λ own. has_item item (cell i n own q)) 0 51 (looked_at round p q) (looked_at round p q) (grind (arith, nat_tests)) (omega arith)
             ∙ ap (λ (o : Option ℕ). option_map_or (λ own. has_item item (cell i n own q)) o false)
             (least_from-same (test q) (ends q) 0 (looked_at round p q) (λ own low. so_far q h own (omega arith)))
             ∙ of_held item q (least_from (ends q) 0 (looked_at round p q))
-            ∙ ap (holds item) (sym (row round (after round) p q (omega arith) h))
+            ∙ ap (cell_holds item) (sym (row round (after round) p q (omega arith) h))
 
-        any : (item : ℤ) → list_any (has_before i n table round p item) (range_with_len 0 n) ≡ list_any (holds item) (before_cell round p)
+        any : (item : ℤ) → list_any (has_before i n table round p item) (range_with_len 0 n) ≡ list_any (cell_holds item) (before_cell round p)
         any item =
             ap (λ (k : ℕ). list_any (has_before i n table round p item) (range_with_len 0 k)) (sym (before_cell-size round p))
-            ∙ list_any-range Open (has_before i n table round p item) (holds item) 0 (before_cell round p)
+            ∙ list_any-range Open (has_before i n table round p item) (cell_holds item) 0 (before_cell round p)
             (λ q h. ap (has_before i n table round p item) (omega arith) ∙ one item q (omega (arith, before_cell-size round p)))
 
         by_case : (c : Candidate) → settled_by i n table p round c ≡ not (is_open (after_try (before_cell round p) c))

@@ -17,16 +17,16 @@ is_open Gone = false
 is_open (Held pick) = false
 
 -- the position holds this item
-abbrev pub holds : ℤ → Cell → Bool
-holds item Open = false
-holds item Gone = false
-holds item (Held pick) = int_eq pick.item item
+abbrev pub cell_holds : ℤ → Cell → Bool
+cell_holds item Open = false
+cell_holds item Gone = false
+cell_holds item (Held pick) = int_eq pick.item item
 
 -- what an open position has after a try
 abbrev pub after_try : List Cell → Candidate → Cell
 after_try cells Early = Gone
 after_try cells Unfit = Open
-after_try cells (Fit pick) = if list_any (holds pick.item) cells then Open else Held pick
+after_try cells (Fit pick) = if list_any (cell_holds pick.item) cells then Open else Held pick
 
 -- what a position has after it was looked at: one that is still open is tried
 abbrev pub after_look : List Cell → Cell → Candidate → Cell

@@ -10,8 +10,8 @@ abbrev pub uniform : ℤ → ℕ → List ℤ → Bucket
 uniform id kind items = record { id = id; kind = kind; alg = Uniform; items = items; weights = [] }
 
 -- a list bucket of id -1 over devices 0 and 1
-abbrev pub weighed : List ℕ → Bucket
-weighed weights = record { id = negsuc 0; kind = 1; alg = Weighed; items = pos 0 ∷ pos 1 ∷ []; weights = weights }
+abbrev pub list_bucket : List ℕ → Bucket
+list_bucket weights = record { id = negsuc 0; kind = 1; alg = Weighed; items = pos 0 ∷ pos 1 ∷ []; weights = weights }
 
 -- a straw2 bucket of id -1
 abbrev pub straw2 : List ℤ → List ℕ → Bucket

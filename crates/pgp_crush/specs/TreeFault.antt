@@ -67,20 +67,20 @@ unfoldable pub tree_fault : List Bucket → Option TreeFault
 tree_fault tree = if has_no_root tree then Some NoRoot else fault_below_root tree
 
 -- the number of a fault of the map that holds the tree
-abbrev pub refusal_number : TreeFault → ℕ
-refusal_number Memory = 51
-refusal_number _ = 21
+abbrev pub tree_refusal_number : TreeFault → ℕ
+tree_refusal_number Memory = 51
+tree_refusal_number _ = 21
 
 -- the number of the fault among those of a tree
-abbrev pub fault_number : TreeFault → Option ℕ
-fault_number NoRoot = Some 1
-fault_number TwiceHeld = Some 2
-fault_number WrongType = Some 3
-fault_number Unknown = Some 4
-fault_number TooDeep = Some 5
-fault_number TooMany = Some 6
-fault_number WeightSum = Some 7
-fault_number Memory = None
+abbrev pub tree_fault_number : TreeFault → Option ℕ
+tree_fault_number NoRoot = Some 1
+tree_fault_number TwiceHeld = Some 2
+tree_fault_number WrongType = Some 3
+tree_fault_number Unknown = Some 4
+tree_fault_number TooDeep = Some 5
+tree_fault_number TooMany = Some 6
+tree_fault_number WeightSum = Some 7
+tree_fault_number Memory = None
 
 -- looking at the list may take memory: a bucket has an item, or the list has one root. What holds nothing and has not one root
 -- is refused without.

@@ -1,7 +1,7 @@
 //! Why a list of buckets is no tree.
 
 ghost use Rattle.std.specs.Prelude.{◌≡◌};
-ghost use Rattle.pgp_crush.specs.TreeFault.{refusal_number, fault_number};
+ghost use Rattle.pgp_crush.specs.TreeFault.{tree_refusal_number, tree_fault_number};
 
 use std::alloc::AllocError;
 use std::error::Error;
@@ -31,7 +31,7 @@ pub enum TreeFault {
 impl TreeFault {
     /// The number of the refusal in answers.
     pub fn number(self) -> u8
-        ensures { result ≡ refusal_number self }
+        ensures { result ≡ tree_refusal_number self }
     {
         match self {
             TreeFault::Memory => 51,
@@ -41,7 +41,7 @@ impl TreeFault {
 
     /// The number of the fault among those of a tree, 1 to 7.
     pub fn tree(self) -> Option<u8>
-        ensures { result ≡ fault_number self }
+        ensures { result ≡ tree_fault_number self }
     {
         match self {
             TreeFault::NoRoot => Some(1),

@@ -4,7 +4,7 @@ ghost use Rattle.std.specs.Prelude.{◌≡◌, ◌+◌, ◌≤◌, ◌<◌, ◌^
 ghost use Rattle.std.specs.List.{list_any};
 ghost use Rattle.pgp_crush.specs.Descent.{rank_limit};
 ghost use Rattle.pgp_crush.specs.Candidate.{input_of, candidate};
-ghost use Rattle.pgp_crush.specs.Cells.{is_open, holds, after_try, after_look, cells_row, leaf_held, indep};
+ghost use Rattle.pgp_crush.specs.Cells.{is_open, cell_holds, after_try, after_look, cells_row, leaf_held, indep};
 
 use super::candidate::{Candidate, Input, Pick};
 use super::descent::Rank;
@@ -32,7 +32,7 @@ impl Cell {
     }
 
     fn holds(self, item: i32) -> bool
-        ensures { result ≡ holds item self }
+        ensures { result ≡ cell_holds item self }
     {
         match self {
             Cell::Held(pick) => pick.item == item,
@@ -112,7 +112,7 @@ fn any_open(cells: &[Cell]) -> bool
 
 /// Some position holds this item.
 fn holds_item(cells: &[Cell], item: i32) -> bool
-    ensures { result ≡ list_any (holds item) cells.now }
+    ensures { result ≡ list_any (cell_holds item) cells.now }
 {
     cells.iter().any(|cell| cell.holds(item))
 }

@@ -22,7 +22,7 @@ ghost use Rattle.pgp_crush.specs.Cells.{indep};
 ghost use Rattle.pgp_crush.specs.Indep.{IsTable, IsIndep, place_at};
 ghost use Rattle.pgp_crush.specs.Bucket.{Bucket, root_of};
 ghost use Rattle.pgp_crush.specs.TreeFault.{is_known, tree_fault};
-ghost use Rattle.pgp_crush.specs.Examples.{uniform, weighed, straw2, three_devices, one_in, device_in_a_row, empty_root, two_hosts, outer_in, four_in_a_list, four_in, chain, wide};
+ghost use Rattle.pgp_crush.specs.Examples.{uniform, list_bucket, straw2, three_devices, one_in, device_in_a_row, empty_root, two_hosts, outer_in, four_in_a_list, four_in, chain, wide};
 
 /// Of three devices device 0 alone is in: a replicated pool lists it, and in an erasure pool one place of three has it.
 pub fn one_device_in()
@@ -43,9 +43,9 @@ pub fn device_too_early()
 
 /// A list bucket chooses its first item, if that has all the weight, and also if none has a weight.
 pub fn list_of_little_weight()
-    ensures one_weight { choice 7 3 (weighed (0x10000 ∷ 0 ∷ [])) ≡ Some (pos 0) }
-    ensures no_weight { choice 7 3 (weighed (0 ∷ 0 ∷ [])) ≡ Some (pos 0) }
-    ensures last_has_all { choice 7 3 (weighed (0 ∷ 0x10000 ∷ [])) ≡ Some (pos 1) }
+    ensures one_weight { choice 7 3 (list_bucket (0x10000 ∷ 0 ∷ [])) ≡ Some (pos 0) }
+    ensures no_weight { choice 7 3 (list_bucket (0 ∷ 0 ∷ [])) ≡ Some (pos 0) }
+    ensures last_has_all { choice 7 3 (list_bucket (0 ∷ 0x10000 ∷ [])) ≡ Some (pos 1) }
 {}
 
 /// A list bucket whose weights are all 0 but the first always chooses its first item.
@@ -178,8 +178,8 @@ pub fn refused_trees()
     ensures id_twice { tree_fault (uniform (negsuc 0) 2 (negsuc 1 ∷ []) ∷ uniform (negsuc 1) 1 [] ∷ uniform (negsuc 1) 1 [] ∷ []) ≡ Some TwiceHeld }
     ensures as_many_items_as_may_be { tree_fault (wide 256) ≡ None }
     ensures many_items { tree_fault (wide 257) ≡ Some TooMany }
-    ensures heavy { tree_fault (weighed (4294967295 ∷ 1 ∷ []) ∷ []) ≡ Some WeightSum }
-    ensures as_heavy_as_may_be { tree_fault (weighed (4294967294 ∷ 1 ∷ []) ∷ []) ≡ None }
+    ensures heavy { tree_fault (list_bucket (4294967295 ∷ 1 ∷ []) ∷ []) ≡ Some WeightSum }
+    ensures as_heavy_as_may_be { tree_fault (list_bucket (4294967294 ∷ 1 ∷ []) ∷ []) ≡ None }
     ensures two_hosts { tree_fault two_hosts ≡ None }
 {}
 

@@ -21,7 +21,7 @@ pub use Rattle.std.specs.Vec.{vec_capacity, vec_len}
 pub use Rattle.pgp_code.specs.AnyCode.{enough_of, enough_of-mono, is_by_place}
 pub use Rattle.pgp_code.specs.Pool.{code_of}
 pub use Rattle.pgp_code.specs.declared.any.AnyCode.{AnyCode}
-pub use Rattle.pgp_group.specs.DeviceFacts.{AreOfMap, GivesEach, HasEachMember, allows, has_noted, renoted, renoted_all, status_noted, up_of}
+pub use Rattle.pgp_group.specs.DeviceFacts.{AreOfMap, GivesEach, HasEachMember, allows_turn, has_noted, renoted, renoted_all, status_noted, status_up}
 pub use Rattle.pgp_group.specs.Entries.{inc_of, incs_of, infos_of, report_of, reports_of}
 pub use Rattle.pgp_group.specs.Parts.{AreHeard, IsBestCopy}
 pub use Rattle.pgp_group.specs.GroupHistory.{EpochsAscend, group_history, grown_with, history_of, made_at, makes, passed_over, primary_facts, state_at_epoch, state_with, states_from}
@@ -31,13 +31,13 @@ pub use Rattle.pgp_group.specs.Heard.{IsLastOfMember, counted_infos, has_member,
 pub use Rattle.pgp_group.specs.KeptInfos.{TakesInfo, KeepsInfos}
 pub use Rattle.pgp_group.specs.KeptNames.{KeepsNames}
 pub use Rattle.pgp_group.specs.KeptPrior.{IsAbreast, IsReckoned, KeepsPrior, basis_of, basis_with}
-pub use Rattle.pgp_group.specs.KeptReports.{AreCounted, AreLogsOf, IsReportedBy, KeepsReports, counts_by, entries_of, is_of, log_of, reported_in}
+pub use Rattle.pgp_group.specs.KeptReports.{AreCounted, AreLogsOf, IsReportedBy, KeepsReports, counts_by, member_entries, is_of, member_log, reported_in}
 pub use Rattle.pgp_group.specs.Later.{AreSentBy, IsAfter}
 pub use Rattle.pgp_group.specs.Peering.{acting_members, best, has_whole_log, if_whole, is_peer, leader, others_heard, past, peer_missing, peer_states, peers, present_members, prior, up_members, whole_best}
 pub use Rattle.pgp_group.specs.Present.{IsPresent}
-pub use Rattle.pgp_group.specs.Reckoning.{IsAccountedFor, IsReckonedWith, IsRemembered, IsStillCurrent, Remembers, TakesNothingAway, acting_of, heard_or_lost, is_lost}
+pub use Rattle.pgp_group.specs.Reckoning.{IsAccountedFor, IsReckonedWith, IsRemembered, IsStillCurrent, Remembers, TakesNothingAway, acting_of, heard_or_lost}
 pub use Rattle.pgp_group.specs.Touched.{changed_devices, changes_pool, changes_temp, has_osd, has_to_do_with, is_touched, may_lie_on, may_move, moves_all, names, view_at, turned_devices, was_member}
-pub use Rattle.pgp_group.specs.Verdict.{IsFirstCause, holds, in_order, is_short, is_waiting, needs_up_thru, place_of, verdict}
+pub use Rattle.pgp_group.specs.Verdict.{IsFirstCause, verdict_holds, in_order, is_short, is_waiting, needs_up_thru, verdict_place, verdict}
 pub use Rattle.pgp_group.specs.View.{scratch, view_of}
 pub use Rattle.pgp_group.specs.declared.device_facts.DeviceFacts.{DeviceFacts}
 pub use Rattle.pgp_group.specs.declared.group.Group.{Group}
@@ -101,10 +101,10 @@ pub use Rattle.pgp_missing.specs.Log.{by_number, is_whole, number_of}
 pub use Rattle.pgp_missing.specs.Missing.{peer_state}
 pub use Rattle.pgp_prior.proofs.BetterLemmas.{blocks-same, no_worse-relieves, not_down-relieved}
 pub use Rattle.pgp_prior.specs.Better.{is_no_worse}
-pub use Rattle.pgp_prior.specs.Blocks.{acting_where, blocks, has_down, is_down, is_settled, matters, settled_slots}
+pub use Rattle.pgp_prior.specs.Blocks.{acting_where, blocks, has_down, is_down, is_lost, is_settled, matters, settled_slots}
 pub use Rattle.pgp_prior.specs.Changes.{IsChange, is_no_better}
 pub use Rattle.pgp_prior.specs.IndexOf.{Basis, IsIndexOf}
-pub use Rattle.pgp_prior.specs.Members.{held_member, members_of, slots_of}
+pub use Rattle.pgp_prior.specs.Members.{held_member, members_of, member_slots}
 pub use Rattle.pgp_prior.specs.Prior.{is_group_down, prior_set}
 pub use Rattle.pgp_prior.specs.declared.index.PriorIndex.{PriorIndex}
 pub use Rattle.pgp_prior.specs.declared.prior_set.Prior.{Prior}

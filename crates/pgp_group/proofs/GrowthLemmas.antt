@@ -3,7 +3,7 @@ use Rattle.pgp_group.proofs.Common.{◌≡◌, ℕ, suc, ◌+◌, ◌<◌, ◌�
 use Rattle.std.specs.Prelude.{replicate}
 use Rattle.std.proofs.lemmas.List.Elements.{All-cons}
 use Rattle.std.proofs.lemmas.List.Quantifiers.{all_pairs_push}
-use Rattle.pgp_lists.proofs.Ranges.{range_with_len-suc}
+use Rattle.pgp_lists.proofs.Ranges.{range-append, range_with_len-suc}
 use Rattle.pgp_map.proofs.FaultLemmas.{no_fault}
 pub use Rattle.pgp_map.proofs.MapLemmas.{epoch-push as epoch-snoc}
 use Rattle.pgp_group.proofs.HistoryLemmas.{maker_of, history_if, history-length}
@@ -193,16 +193,6 @@ same-kept : {Y : Type 0} (f : ℕ → Option Y) (y : Y) (a n : ℕ) → ((k : �
 same-kept f y a zero each = refl
 same-kept f y a (suc n) each =
     rw (each a (omega arith) (omega arith)) (ap (λ ys. y ∷ ys) (same-kept f y (a + 1) n (λ k from below. each k (omega arith) (omega arith))))
-
-range-append : (a n m : ℕ) → range_with_len a (n + m) ≡ range_with_len a n ++ range_with_len (a + n) m
-range-append a zero m =
-    let from : a ≡ a + 0 = omega arith in
-    let many : 0 + m ≡ m = omega arith in
-    ap₂ range_with_len from many
-range-append a (suc n) m =
-    let from : a + 1 + n ≡ a + suc n = omega arith in
-    let many : suc n + m ≡ suc (n + m) = omega arith in
-    ap (range_with_len a) many ∙ ap (λ xs. a ∷ xs) (range-append (a + 1) n m) ∙ ap (λ b. a ∷ range_with_len (a + 1) n ++ range_with_len b m) from
 
 -- the states before stay
 states-before : (incs : List Incremental) (inc : Incremental) (pg : PgId) (first : ℕ) → epoch incs < inc.epoch → first ≤ epoch incs → filter_map (state_at_epoch (then_with incs inc) pg) (range_with_len first (epoch incs - first)) ≡ states_from incs pg first

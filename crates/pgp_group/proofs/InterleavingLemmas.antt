@@ -2,7 +2,7 @@
 use Rattle.pgp_group.proofs.Common.{◌≡◌, ℕ, ◌≤◌, List, [], ◌∷◌, Option, Some, None, Bool, true, length, map, fold, max, refl, ap, ap₂, sym, ◌∙◌, subst, inl, inr, arith, Contains, filter, find, flat_map, last_or, option_map, nat_tests, filter-append, enough_of, is_by_place, AnyCode, is_same_member, Entry, Incremental, Member, PgId, Info, Report, History, past_intervals-same, Contains-nil, Contains-here, Contains-later, Contains-cases, contains-filter, contains-map, filter-contains, find-some, map-contains, epoch, prior_set, status, incs_of, group_history, cleans, group_with, infos, reports, GroupLog, counted_infos, last_of_each_member, les, past, leader, view_of, scratch}
 use Rattle.pgp_info.proofs.SameInfos.{same_best}
 use Rattle.pgp_group.specs.Interleaving.{TellTheSame, with_count}
-use Rattle.pgp_group.specs.Peering.{info_of}
+use Rattle.pgp_group.specs.Peering.{info_from}
 use Rattle.pgp_group.specs.Prefers.{prefers}
 use Rattle.pgp_group.proofs.HeardLemmas.{HasDistinctMembers-last_of, last_of-IsLastOfMember}
 use Rattle.pgp_group.proofs.LaterLemmas.{counts_by}
@@ -58,7 +58,7 @@ last_of-found told info there =
     grind (arith, filter-append (is_of info.member) is.before (info ∷ is.after), last_or-snoc None (filter (is_of info.member) is.before) info)
 
 -- the info that is kept of each member is the same
-kept-same : (a b : List Info) → AlikeByMember a b → (member : Member) → info_of (last_of_each_member a) member ≡ info_of (last_of_each_member b) member
+kept-same : (a b : List Info) → AlikeByMember a b → (member : Member) → info_from (last_of_each_member a) member ≡ info_from (last_of_each_member b) member
 kept-same a b alike member = find-last_of member a ∙ ap (last_or None) (alike member) ∙ sym (find-last_of member b)
 
 kept-among : (a b : List Info) → AlikeByMember a b → (info : Info) → Contains (last_of_each_member a) info → Contains (last_of_each_member b) info

@@ -1,5 +1,5 @@
 -- The index of a prior set, by statuses that tell the same, and as the entries of its devices are renewed one after another.
-use Rattle.pgp_group.proofs.Common.{arith, ◌≡◌, ℕ, ◌+◌, ◌<◌, List, [], ◌∷◌, Bool, true, false, ◌||◌, nat_eq, length, refl, ap, sym, ◌∙◌, inl, inr, eqb-true, eq-eqb, take, get_or, if◌then◌else◌, or-false, or-true, cases_Bool, take_more, take_all, list_any-append, Past, OsdMap, is_no_worse, is_no_better, IsChange, held_status, Status, Up, renoted, has_noted, status_noted, up_of, allows, HasEachMember, GivesEach, DeviceFacts, Some, subst, Contains, enough_of, is_by_place, enough_of-mono, AnyCode, Member, contains-map, Basis, IsIndexOf, members_of, PriorIndex, blocks-same, nat_tests}
+use Rattle.pgp_group.proofs.Common.{arith, ◌≡◌, ℕ, ◌+◌, ◌<◌, List, [], ◌∷◌, Bool, true, false, ◌||◌, nat_eq, length, refl, ap, sym, ◌∙◌, inl, inr, eqb-true, eq-eqb, take, get_or, if◌then◌else◌, or-false, or-true, cases_Bool, take_more, take_all, list_any-append, Past, OsdMap, is_no_worse, is_no_better, IsChange, held_status, Status, Up, renoted, has_noted, status_noted, status_up, allows_turn, HasEachMember, GivesEach, DeviceFacts, Some, subst, Contains, enough_of, is_by_place, enough_of-mono, AnyCode, Member, contains-map, Basis, IsIndexOf, members_of, PriorIndex, blocks-same, nat_tests}
 use Rattle.pgp_group.specs.declared.device_facts.EachUp.{EachUp}
 use Rattle.pgp_group.specs.declared.device_facts.Turn.{Turn}
 use Rattle.pgp_prior.specs.JudgedInterval.{past_of}
@@ -30,7 +30,7 @@ index-agree b status index is agree = record {
 
 -- ---- a status that stays is allowed by any turn
 
-pub allows-same : (kind : Turn) (status : Status) → allows kind status status ≡ true
+pub allows-same : (kind : Turn) (status : Status) → allows_turn kind status status ≡ true
 allows-same kind status = grind arith
 
 -- ---- any change of a device is one to up, and then one from up
@@ -51,8 +51,8 @@ to_up old = grind arith
 from_up : (new : Status) → is_no_better Up new ≡ true
 from_up new = grind arith
 
-module _ (by_place : Bool) (osd : ℕ) (told old new : ℕ → ℕ → Status) (past : List Past) (change : IsChange (allows turn.Again) by_place osd told old new past) where
-  pub change-up : (all : EachUp) → IsChange is_no_worse by_place osd (up_of all) old (raised osd old) past
+module _ (by_place : Bool) (osd : ℕ) (told old new : ℕ → ℕ → Status) (past : List Past) (change : IsChange (allows_turn turn.Again) by_place osd told old new past) where
+  pub change-up : (all : EachUp) → IsChange is_no_worse by_place osd (status_up all) old (raised osd old) past
   change-up all interval there = grind (arith, nat_tests, raised-it, to_up, raised-other)
 
   pub change-from_up : IsChange is_no_better by_place osd told (raised osd old) new past
@@ -84,16 +84,16 @@ module _ (map : OsdMap) (noted : List DeviceFacts) (i : ℕ) (entry : DeviceFact
   partly-other q first apart = grind (arith, has-more noted i entry q within item, or-false (has_noted q (take i noted)))
 
   -- where the device's entry says something else than the map, and its statuses turned so
-  pub partly-change : (by_place : Bool) (past : List Past) (kind : Turn) → ((first : ℕ) → allows kind (status_noted entry first) (held_status map entry.osd first) ≡ true) → GivesEach by_place status past noted
-      → IsChange (allows kind) by_place entry.osd (held_status map) (partly map (take i noted) status) (partly map (take (i + 1) noted) status) past
+  pub partly-change : (by_place : Bool) (past : List Past) (kind : Turn) → ((first : ℕ) → allows_turn kind (status_noted entry first) (held_status map entry.osd first) ≡ true) → GivesEach by_place status past noted
+      → IsChange (allows_turn kind) by_place entry.osd (held_status map) (partly map (take i noted) status) (partly map (take (i + 1) noted) status) past
   partly-change by_place past kind turned gives interval there = record {
     of_it = λ m acts same. partly-it entry.osd interval.first refl;
     allowed_of_it = grind (arith, nat_tests, partly-it);
     of_others = λ m acts apart. partly-other m.osd interval.first (λ same. apart (sym same));
   }
     where
-      allowed : (b : Bool) (first : ℕ) → allows kind (status entry.osd first) (held_status map entry.osd first) ≡ true
-          → allows kind (taken map status b entry.osd first) (held_status map entry.osd first) ≡ true
+      allowed : (b : Bool) (first : ℕ) → allows_turn kind (status entry.osd first) (held_status map entry.osd first) ≡ true
+          → allows_turn kind (taken map status b entry.osd first) (held_status map entry.osd first) ≡ true
       allowed true first is = allows-same kind (held_status map entry.osd first)
       allowed false first is = is
 

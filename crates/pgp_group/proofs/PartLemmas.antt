@@ -1,6 +1,6 @@
 -- The parts of a view are those of its definition, and its verdict is the first whose cause holds.
-use Rattle.pgp_group.proofs.Common.{◌≡◌, List, [], ◌++◌, Option, Some, None, Bool, true, false, not, map, refl, ap₂, sym, ◌∙◌, list_any, option_map, is_by_place, is_before, Membership, Info, best_info, Heard, Preference, ascending, KeptLog, members_of, Prior, AreHeard, GroupLog, heard, has_member, prior, leader, best, has_whole_log, present_members, peers, peer_missing, peer_states, is_waiting, CountedLog, arith, nat_tests, ℕ, suc, ◌<◌, ◌∷◌, find, unwrap_or, cases_lt, true≢false, Verdict, NoPrimary, Down, Waiting, Incomplete, Short, NeedLog, NeedUpThru, Serve, holds, verdict, place_of, IsFirstCause}
-use Rattle.pgp_info.specs.Prefers.{prefers as prefers_by}
+use Rattle.pgp_group.proofs.Common.{◌≡◌, List, [], ◌++◌, Option, Some, None, Bool, true, false, not, map, refl, ap₂, sym, ◌∙◌, list_any, option_map, is_by_place, is_before, Membership, Info, best_info, Heard, Preference, ascending, KeptLog, members_of, Prior, AreHeard, GroupLog, heard, has_member, prior, leader, best, has_whole_log, present_members, peers, peer_missing, peer_states, is_waiting, CountedLog, arith, nat_tests, ℕ, suc, ◌<◌, ◌∷◌, find, unwrap_or, cases_lt, true≢false, Verdict, NoPrimary, Down, Waiting, Incomplete, Short, NeedLog, NeedUpThru, Serve, verdict_holds, verdict, verdict_place, IsFirstCause}
+use Rattle.pgp_info.specs.Prefers.{prefers_with as prefers_by}
 use Rattle.pgp_group.specs.Prefers.{prefers}
 
 -- ---- the best copy
@@ -35,9 +35,9 @@ log-there (Some l) log is = (l, refl, let same : Some log ≡ Some l.log = is in
 
 -- no cause before this place holds
 NoneBelow : GroupLog → ℕ → Type 0
-NoneBelow g n = (v : Verdict) → place_of v < n → holds g v ≡ false
+NoneBelow g n = (v : Verdict) → verdict_place v < n → verdict_holds g v ≡ false
 
-none_below-next : (g : GroupLog) (v : Verdict) → NoneBelow g (place_of v) → holds g v ≡ false → NoneBelow g (suc (place_of v))
+none_below-next : (g : GroupLog) (v : Verdict) → NoneBelow g (verdict_place v) → verdict_holds g v ≡ false → NoneBelow g (suc (verdict_place v))
 unfolding NoneBelow
 none_below-next g v below fails = grind arith
 
@@ -45,12 +45,12 @@ none_below-first : (g : GroupLog) → NoneBelow g 0
 unfolding NoneBelow
 none_below-first g = λ v low. absurd (omega arith)
 
-first_here : (g : GroupLog) (v : Verdict) → NoneBelow g (place_of v) → holds g v ≡ true → IsFirstCause g v
+first_here : (g : GroupLog) (v : Verdict) → NoneBelow g (verdict_place v) → verdict_holds g v ≡ true → IsFirstCause g v
 unfolding NoneBelow
 first_here g v below here = record { cause = here; none_before = below }
 
 -- the first of the verdicts from this one on, where no earlier one's cause holds
-first_of : (g : GroupLog) (v : Verdict) (rest : List Verdict) → NoneBelow g (place_of v) → (NoneBelow g (suc (place_of v)) → IsFirstCause g (unwrap_or (find (holds g) rest) Serve)) → IsFirstCause g (unwrap_or (find (holds g) (v ∷ rest)) Serve)
+first_of : (g : GroupLog) (v : Verdict) (rest : List Verdict) → NoneBelow g (verdict_place v) → (NoneBelow g (suc (verdict_place v)) → IsFirstCause g (unwrap_or (find (verdict_holds g) rest) Serve)) → IsFirstCause g (unwrap_or (find (verdict_holds g) (v ∷ rest)) Serve)
 first_of g v rest below later = grind (arith, nat_tests, first_here, none_below-next)
 
 pub IsFirstCause-verdict : (g : GroupLog) → IsFirstCause g (verdict g)
@@ -65,12 +65,12 @@ IsFirstCause-verdict g =
     first_here g Serve n7 refl)))))))
 
 -- there is only one
-one_first : (g : GroupLog) (v w : Verdict) → IsFirstCause g v → IsFirstCause g w → place_of v < place_of w → ⊥
+one_first : (g : GroupLog) (v w : Verdict) → IsFirstCause g v → IsFirstCause g w → verdict_place v < verdict_place w → ⊥
 one_first g v w first_v first_w less = true≢false (sym first_v.cause ∙ first_w.none_before v less)
 
 pub verdict-IsFirstCause : (g : GroupLog) (v : Verdict) → IsFirstCause g v → verdict g ≡ v
 verdict-IsFirstCause g v first =
-    grind (arith, cases_lt (place_of v) (place_of (verdict g)), IsFirstCause-verdict g, cases_lt (place_of (verdict g)) (place_of v))
+    grind (arith, cases_lt (verdict_place v) (verdict_place (verdict g)), IsFirstCause-verdict g, cases_lt (verdict_place (verdict g)) (verdict_place v))
 
 -- what the laws say
 pub ruleset verdict_laws = (IsFirstCause-verdict, verdict-IsFirstCause)

@@ -3,7 +3,7 @@ use Rattle.pgp_group.proofs.Common.{◌≡◌, ℕ, ◌+◌, ◌<◌, List, [], 
 use Rattle.pgp_prior.specs.MemberOrder.{member_order}
 use Rattle.pgp_group.proofs.HeardLemmas.{HasDistinctMembers-last_of}
 use Rattle.pgp_group.proofs.Lists.{filter-passes, filter-fails, filter_map-from, filter-both}
-use Rattle.pgp_group.specs.Peering.{info_of}
+use Rattle.pgp_group.specs.Peering.{info_from}
 use Rattle.std.proofs.lemmas.List.Filters.{length-filter_both}
 
 -- ---- members
@@ -25,18 +25,18 @@ record Found (infos : List Info) (member : Member) (info : Info) : Type 0 where
   of_member : info.member ≡ member
 
 -- what is found is an info of the member
-found_of : (infos : List Info) (member : Member) (info : Info) → info_of infos member ≡ Some info → Found infos member info
+found_of : (infos : List Info) (member : Member) (info : Info) → info_from infos member ≡ Some info → Found infos member info
 found_of infos member info found = grind (arith, nat_tests, find-some, same_member)
 
 -- where there is an info of the member, one is found
-some_of : (infos : List Info) (member : Member) (info : Info) → Contains infos info → info.member ≡ member → (found : Option Info) → info_of infos member ≡ found → (other : Info) × (info_of infos member ≡ Some other)
+some_of : (infos : List Info) (member : Member) (info : Info) → Contains infos info → info.member ≡ member → (found : Option Info) → info_from infos member ≡ found → (other : Info) × (info_from infos member ≡ Some other)
 some_of infos member info there same None none =
     absurd (true≢false (sym (same_member_as info.member member same) ∙ find-none (λ (i : Info). is_same_member i.member member) infos info none there))
 some_of infos member info there same (Some other) found = (other, found)
 
-pub info_of-is : (infos : List Info) → HasDistinctMembers infos → (info : Info) → Contains infos info → info_of infos info.member ≡ Some info
+pub info_of-is : (infos : List Info) → HasDistinctMembers infos → (info : Info) → Contains infos info → info_from infos info.member ≡ Some info
 info_of-is infos distinct info there =
-    let some = some_of infos info.member info there refl (info_of infos info.member) refl in
+    let some = some_of infos info.member info there refl (info_from infos info.member) refl in
     let found = found_of infos info.member some.0 some.1 in
     some.1 ∙ ap Some (one_of_member infos distinct some.0 info found.there there found.of_member)
 
@@ -85,7 +85,7 @@ standing g = up_members g ++ acting_members g
 pub peers-contains : (g : GroupLog) (best info : Info) → Contains (peers g best) info → Contains (heard g) info × (is_peer g best info.member ≡ true)
 unfolding is_other standing
 peers-contains g best info in' =
-    let from = filter_map-from (info_of (heard g)) (filter (is_other best) (present_members g)) info in' in
+    let from = filter_map-from (info_from (heard g)) (filter (is_other best) (present_members g)) info in' in
     let found = found_of (heard g) from.0 info from.2 in
     let kept = filter-contains (is_other best) (present_members g) from.0 from.1 in
     let stands : Contains (standing g) from.0 = ascending-contains is_before (standing g) from.0 kept.0 in
@@ -97,14 +97,14 @@ contains-peers g best info there peer =
     let parts = and_parts (list_any (is_same_member info.member) (standing g)) (is_other best info.member) peer in
     let stands = any-contains (is_same_member info.member) (standing g) parts.0 in
     let here : Contains (standing g) info.member = subst (Contains (standing g)) (sym (same_member info.member stands.0 stands.1.1)) stands.1.0 in
-    contains-filter_map (info_of (heard g)) (filter (is_other best) (present_members g)) info.member info
+    contains-filter_map (info_from (heard g)) (filter (is_other best) (present_members g)) info.member info
     (contains-filter (is_other best) (present_members g) info.member (contains-ascending is_before member_order (standing g) info.member here) parts.1)
     (info_of-is (heard g) (HasDistinctMembers-last_of (counted_infos g)) info there)
 
 peers-ascend : (g : GroupLog) (best : Info) → IsAscending (on (λ (info : Info). info.member) is_before) (peers g best)
 unfolding is_other
 peers-ascend g best =
-    ascend_found (info_of (heard g)) (λ m info is. (found_of (heard g) m info is).of_member) (filter (is_other best) (present_members g))
+    ascend_found (info_from (heard g)) (λ m info is. (found_of (heard g) m info is).of_member) (filter (is_other best) (present_members g))
     (AllPairs-filter (λ (x y : Member). is_before x y ≡ true) (is_other best) (present_members g) (IsAscending-ascending is_before member_order (up_members g ++ acting_members g)))
 
 states-ascend : (g : GroupLog) (found : Option Info) → IsAscending (on (λ (p : PeerMissing). p.member) is_before) (option_map_or (λ (best : Info). map (peer_missing g best) (peers g best)) found [])
@@ -118,19 +118,19 @@ peer_states-ascend g = states-ascend g (whole_best g)
 
 -- ---- one more member
 
-pub others-one : (all : List Member) (kept : List Info) (info : Info) (i : ℕ) (x : Member) → i < length all → x ≡ get_or all i x → (peer : Info) → Some peer ≡ (if is_same_member x info.member then None else info_of kept x) → others_heard (take (i + 1) all) kept info ≡ others_heard (take i all) kept info ++ peer ∷ []
+pub others-one : (all : List Member) (kept : List Info) (info : Info) (i : ℕ) (x : Member) → i < length all → x ≡ get_or all i x → (peer : Info) → Some peer ≡ (if is_same_member x info.member then None else info_from kept x) → others_heard (take (i + 1) all) kept info ≡ others_heard (take i all) kept info ++ peer ∷ []
 others-one all kept info i x within item peer found =
     let other : Member → Bool = λ m. not (is_same_member m info.member) in
-    grind (arith, filter-passes other all i x within item, filter_map-append (info_of kept) (filter other (take i all)) (x ∷ []))
+    grind (arith, filter-passes other all i x within item, filter_map-append (info_from kept) (filter other (take i all)) (x ∷ []))
 
-pub others-none : (all : List Member) (kept : List Info) (info : Info) (i : ℕ) (x : Member) → i < length all → x ≡ get_or all i x → None ≡ (if is_same_member x info.member then None else info_of kept x) → others_heard (take (i + 1) all) kept info ≡ others_heard (take i all) kept info
+pub others-none : (all : List Member) (kept : List Info) (info : Info) (i : ℕ) (x : Member) → i < length all → x ≡ get_or all i x → None ≡ (if is_same_member x info.member then None else info_from kept x) → others_heard (take (i + 1) all) kept info ≡ others_heard (take i all) kept info
 others-none all kept info i x within item found =
     let other : Member → Bool = λ m. not (is_same_member m info.member) in
     grind (
       arith,
       filter-passes other all i x within item,
       filter-fails other all i x within item,
-      filter_map-append (info_of kept) (filter other (take i all)) (x ∷ []),
+      filter_map-append (info_from kept) (filter other (take i all)) (x ∷ []),
       append-nil (others_heard (take i all) kept info),
     )
 

@@ -1,7 +1,7 @@
 -- What is kept of the reports of a group and of the logs of its members, as its log grows and as they are looked at.
-use Rattle.pgp_group.proofs.Common.{◌≡◌, ℕ, ◌≤◌, List, [], ◌∷◌, ◌++◌, Option, None, Bool, true, false, ◌&&◌, cond, nat_le, length, take, refl, ap, sym, ◌∙◌, inl, inr, arith, append-nil, All, filter, find, flat_map, cases_Bool, and_parts, nat_tests, All-contains, All-filter, All-weaker, filter_passes, is_same_member, LogEntry, Member, Report, filter-agree, epoch, by_number, GroupLog, incs, reports, is_counted, is_of, log_of, entries_of, counts_by, reported_in, AreLogsOf, KeepsReports, AreCounted, IsReportedBy, CountedLog, Reports, zero, suc, ◌+◌, ◌<◌, Some, if◌then◌else◌, get_or, position, position_from, position_or_len, slice_get, slice_set, option_map_or, option_or, nat_cmp, filter-append, find_at, find-set, find_past, find-append, position-Some, fold-append, slice_get-get_or, Info, IsLogOf, number_of, flat_map-push}
+use Rattle.pgp_group.proofs.Common.{◌≡◌, ℕ, ◌≤◌, List, [], ◌∷◌, ◌++◌, Option, None, Bool, true, false, ◌&&◌, cond, nat_le, length, take, refl, ap, sym, ◌∙◌, inl, inr, arith, append-nil, All, filter, find, flat_map, cases_Bool, and_parts, nat_tests, All-contains, All-filter, All-weaker, filter_passes, is_same_member, LogEntry, Member, Report, filter-agree, epoch, by_number, GroupLog, incs, reports, is_counted, is_of, member_log, member_entries, counts_by, reported_in, AreLogsOf, KeepsReports, AreCounted, IsReportedBy, CountedLog, Reports, zero, suc, ◌+◌, ◌<◌, Some, if◌then◌else◌, get_or, position, position_from, position_or_len, slice_get, slice_set, option_map_or, option_or, nat_cmp, filter-append, find_at, find-set, find_past, find-append, position-Some, fold-append, slice_get-get_or, Info, IsLogOf, number_of, flat_map-push}
 use Rattle.pgp_group.specs.InboxOf.{Arrivals, with_arrival}
-use Rattle.pgp_group.specs.KeptReports.{counts}
+use Rattle.pgp_group.specs.KeptReports.{counts_log}
 use Rattle.pgp_group.specs.declared.logs.Logs.{Logs}
 use Rattle.pgp_group.proofs.InboxLemmas.{Grows, Grows-none, Grows-one, IsInboxOf-grown, seen-all, seen-grown, seen-sent}
 use Rattle.pgp_group.proofs.LaterLemmas.{Outlasts, outlasts-same}
@@ -33,7 +33,7 @@ entries_from found = option_map_or (λ log. log.log.entries) found []
 -- the log of the sender, with more entries
 pub added : (sender member : Member) (logs : List CountedLog) (i : ℕ) (d y : CountedLog) (entries reported : List LogEntry) → position (is_of sender) logs ≡ Some i → d ≡ get_or logs i d → y.member ≡ d.member
     → ((r : List LogEntry) → d.log.entries ≡ by_number r → y.log.entries ≡ by_number (r ++ entries))
-    → entries_of member logs ≡ by_number reported → entries_of member (slice_set logs i y) ≡ by_number (reported ++ (if is_same_member sender member then entries else []))
+    → member_entries member logs ≡ by_number reported → member_entries member (slice_set logs i y) ≡ by_number (reported ++ (if is_same_member sender member then entries else []))
 added sender member logs i d y entries reported at item same add is =
     grind (arith, nat_tests, position-Some, same_member, find-set, first-at, found-at, append-nil, find_past)
 
@@ -43,13 +43,13 @@ none_or (Some x) = refl
 
 -- the first log of the sender
 pub added-first : (sender member : Member) (logs : List CountedLog) (y : CountedLog) (entries reported : List LogEntry) → position (is_of sender) logs ≡ None → y.member ≡ sender → y.log.entries ≡ by_number entries
-    → entries_of member logs ≡ by_number reported → entries_of member (logs ++ y ∷ []) ≡ by_number (reported ++ (if is_same_member sender member then entries else []))
+    → member_entries member logs ≡ by_number reported → member_entries member (logs ++ y ∷ []) ≡ by_number (reported ++ (if is_same_member sender member then entries else []))
 added-first sender member logs y entries reported none same new is =
-    let found : log_of member (logs ++ y ∷ []) ≡ option_or (log_of member logs) (log_of member (y ∷ [])) = find-append (is_of member) logs (y ∷ []) in
+    let found : member_log member (logs ++ y ∷ []) ≡ option_or (member_log member logs) (member_log member (y ∷ [])) = find-append (is_of member) logs (y ∷ []) in
     let alike : is_of member y ≡ is_same_member sender member = ap (λ (m : Member). is_same_member m member) same in
     elim (cases_Bool (is_same_member sender member)) [
       | inl it ↦ grind (arith, same_member sender member it, found-none (is_of sender) logs none, fold-append (put_in number_of nat_cmp) [] reported entries)
-      | inr other ↦ grind (arith, none_or (log_of member logs), append-nil)
+      | inr other ↦ grind (arith, none_or (member_log member logs), append-nil)
     ]
 
 -- ---- bounds
@@ -58,18 +58,18 @@ abbrev pub judged : (Member → ℕ → Bool) → CountedLog → Bool
 judged test log = test log.member log.stamp
 
 head-entries : (test : CountedLog → Bool) (member : Member) (x : CountedLog) (xs : List CountedLog)
-    → entries_of member (filter test (x ∷ xs)) ≡ cond (test x && is_of member x) x.log.entries (entries_of member (filter test xs))
+    → member_entries member (filter test (x ∷ xs)) ≡ cond (test x && is_of member x) x.log.entries (member_entries member (filter test xs))
 head-entries test member x xs = grind arith
 
 -- a log with other bounds, among those that pass a test
 pub renewed : (test : Member → ℕ → Bool) (member : Member) (logs : List CountedLog) (i : ℕ) (d y : CountedLog) (reported : List LogEntry) → i < length logs → d ≡ get_or logs i d → y.member ≡ d.member → y.stamp ≡ d.stamp
     → ((r : List LogEntry) → d.log.entries ≡ by_number r → y.log.entries ≡ by_number r)
-    → entries_of member (filter (judged test) logs) ≡ by_number reported → entries_of member (filter (judged test) (slice_set logs i y)) ≡ by_number reported
+    → member_entries member (filter (judged test) logs) ≡ by_number reported → member_entries member (filter (judged test) (slice_set logs i y)) ≡ by_number reported
 renewed test member [] i d y reported within item same stamp keeps is = absurd (omega arith)
 renewed test member (x ∷ xs) zero d y reported within item same stamp keeps is = grind (arith, nat_tests, head-entries)
 renewed test member (x ∷ xs) (suc i) d y reported within item same stamp keeps is =
-    let old : List LogEntry = entries_of member (filter (judged test) xs) in
-    let new : List LogEntry = entries_of member (filter (judged test) (slice_set xs i y)) in
+    let old : List LogEntry = member_entries member (filter (judged test) xs) in
+    let new : List LogEntry = member_entries member (filter (judged test) (slice_set xs i y)) in
     elim (cases_Bool (judged test x && is_of member x)) [
       | inl it ↦ grind (arith, head-entries (judged test) member x (slice_set xs i y), head-entries (judged test) member x xs)
       | inr other ↦
@@ -80,7 +80,7 @@ renewed test member (x ∷ xs) (suc i) d y reported within item same stamp keeps
 -- the log that was renewed is the one of the member
 pub renewed-one : (member : Member) (logs : List CountedLog) (i : ℕ) (d y log : CountedLog) (info : Info) (reported : List LogEntry) → position (is_of member) logs ≡ Some i → d ≡ get_or logs i d → y.member ≡ d.member
     → ((r : List LogEntry) → d.log.entries ≡ by_number r → IsLogOf info r y.log)
-    → entries_of member logs ≡ by_number reported → log_of member (slice_set logs i y) ≡ Some log → IsLogOf info reported log.log
+    → member_entries member logs ≡ by_number reported → member_log member (slice_set logs i y) ≡ Some log → IsLogOf info reported log.log
 renewed-one member logs i d y log info reported at item same bounds is found = grind (arith, nat_tests, position-Some, find-set, first-at, found-at)
 
 -- ---- one more report
@@ -106,7 +106,7 @@ filter-and p b (x ∷ xs) = grind (arith, filter-and p b xs)
 
 -- of one member all that counted still counts, or none does
 found-lasting : (test : CountedLog → Bool) (lasts : ℕ → Bool) (member : Member) (logs : List CountedLog)
-    → log_of member (filter (λ log. test log && lasts log.member.osd) logs) ≡ cond (lasts member.osd) (log_of member (filter test logs)) None
+    → member_log member (filter (λ log. test log && lasts log.member.osd) logs) ≡ cond (lasts member.osd) (member_log member (filter test logs)) None
 found-lasting test lasts member [] = grind arith
 found-lasting test lasts member (x ∷ xs) = grind (arith, nat_tests, found-lasting test lasts member xs)
 
@@ -126,18 +126,18 @@ KeepsReports-grown g after more old kept on told grows logs is = record {
   logs_sent = grind (arith, nat_tests, All-weaker);
   logs_are = λ settled member.
       let looked_at : List Report = take old.inbox.seen (reports g) in
-      let was : Option CountedLog = log_of member (filter (counts g) old.logs.of_members.items) in
-      let now : log_of member (filter (counts after) old.logs.of_members.items) ≡ cond (on.lasts member.osd) was None =
+      let was : Option CountedLog = member_log member (filter (counts_log g) old.logs.of_members.items) in
+      let now : member_log member (filter (counts_log after) old.logs.of_members.items) ≡ cond (on.lasts member.osd) was None =
       ap (find (is_of member))
-      (filter-agree (counts after) (λ (log : CountedLog). counts g log && on.lasts log.member.osd) old.logs.of_members.items
+      (filter-agree (counts_log after) (λ (log : CountedLog). counts_log g log && on.lasts log.member.osd) old.logs.of_members.items
       (λ log there. on.counts log.member log.stamp
       (All-contains (λ (l : CountedLog). l.stamp ≤ epoch (incs g)) old.logs.of_members.items log (is.logs_sent (grows.sent settled).0) there)))
-      ∙ found-lasting (counts g) on.lasts member old.logs.of_members.items in
+      ∙ found-lasting (counts_log g) on.lasts member old.logs.of_members.items in
       let left : filter (is_by after member) looked_at ≡ cond (on.lasts member.osd) (filter (is_by g member) looked_at) [] =
       filter-agree (is_by after member) (λ (r : Report). is_by g member r && on.lasts member.osd) looked_at
       (λ r there. each member r (seen-sent is.inbox_is (grows.sent settled).0 r there))
       ∙ filter-and (is_by g member) (on.lasts member.osd) looked_at in
-      ap (λ (l : Logs). entries_of member (filter (counts after) l.of_members.items)) logs ∙ ap entries_from now
+      ap (λ (l : Logs). member_entries member (filter (counts_log after) l.of_members.items)) logs ∙ ap entries_from now
       ∙ joined (on.lasts member.osd) was (filter (is_by g member) looked_at) (is.logs_are (grows.sent settled).0 member)
       ∙ ap (λ (l : List Report). by_number (flat_map (λ (r : Report). r.log) l)) (sym left)
       ∙ ap (λ (l : List Report). by_number (reported_in after l member)) (sym (seen-grown is.inbox_is told grows));
@@ -166,11 +166,11 @@ KeepsReports-new g after report at old kept here told is inbox logs =
 
 -- what is kept is judged again
 pub AreCounted-judged : (g : GroupLog) (old kept : Reports) → KeepsReports g old → old.inbox.ahead ≡ false → kept.inbox ≡ old.inbox
-    → kept.logs.of_members.items ≡ filter (counts g) old.logs.of_members.items → AreCounted g kept
+    → kept.logs.of_members.items ≡ filter (counts_log g) old.logs.of_members.items → AreCounted g kept
 AreCounted-judged g old kept is settled inbox logs =
-    grind (arith, nat_tests, each (filter (counts g) old.logs.of_members.items), filter_passes (counts g) old.logs.of_members.items, All-filter (counts g) (λ (l : CountedLog). l.stamp ≤ epoch (incs g)) old.logs.of_members.items)
+    grind (arith, nat_tests, each (filter (counts_log g) old.logs.of_members.items), filter_passes (counts_log g) old.logs.of_members.items, All-filter (counts_log g) (λ (l : CountedLog). l.stamp ≤ epoch (incs g)) old.logs.of_members.items)
   where
-    each : (logs' : List CountedLog) → All (λ log. counts g log ≡ true) logs' → All (λ log. log.stamp ≤ epoch (incs g)) logs' → All (λ log. counts_by g (epoch (incs g)) log ≡ true) logs'
+    each : (logs' : List CountedLog) → All (λ log. counts_log g log ≡ true) logs' → All (λ log. log.stamp ≤ epoch (incs g)) logs' → All (λ log. counts_by g (epoch (incs g)) log ≡ true) logs'
     each logs' counted early = grind (arith, nat_tests)
 
 -- all were looked at, and the logs count
@@ -183,7 +183,7 @@ KeepsReports-heard g old kept is inbox logs counted =
 
 -- what a log says, except for its bounds, stays
 pub KeepsReports-renewed : (g : GroupLog) (old kept : Reports) → KeepsReports g old → kept.inbox ≡ old.inbox
-    → ((test : Member → ℕ → Bool) (member : Member) (reported : List LogEntry) → entries_of member (filter (judged test) old.logs.of_members.items) ≡ by_number reported → entries_of member (filter (judged test) kept.logs.of_members.items) ≡ by_number reported)
+    → ((test : Member → ℕ → Bool) (member : Member) (reported : List LogEntry) → member_entries member (filter (judged test) old.logs.of_members.items) ≡ by_number reported → member_entries member (filter (judged test) kept.logs.of_members.items) ≡ by_number reported)
     → ((test : Member → ℕ → Bool) → All (λ log. judged test log ≡ true) old.logs.of_members.items → All (λ log. judged test log ≡ true) kept.logs.of_members.items)
     → KeepsReports g kept
 KeepsReports-renewed g old kept is inbox entries each = record {
@@ -209,8 +209,8 @@ KeepsReports-renewed g old kept is inbox entries each = record {
     passes log sent = let le : nat_le log.stamp (epoch (incs g)) ≡ true = grind (arith, nat_tests) in le
 
 pub AreLogsOf-renewed : (g : GroupLog) (told : List Report) (old kept : List CountedLog)
-    → ((test : Member → ℕ → Bool) (member : Member) (reported : List LogEntry) → entries_of member (filter (judged test) old) ≡ by_number reported → entries_of member (filter (judged test) kept) ≡ by_number reported)
+    → ((test : Member → ℕ → Bool) (member : Member) (reported : List LogEntry) → member_entries member (filter (judged test) old) ≡ by_number reported → member_entries member (filter (judged test) kept) ≡ by_number reported)
     → AreLogsOf g told old → AreLogsOf g told kept
 AreLogsOf-renewed g told old kept entries is member =
-    ap (entries_of member) (sym (filter-each (judged (λ _ _. true)) kept (λ _ _. refl)))
-    ∙ entries (λ _ _. true) member (reported_in g told member) (ap (entries_of member) (filter-each (judged (λ _ _. true)) old (λ _ _. refl)) ∙ is member)
+    ap (member_entries member) (sym (filter-each (judged (λ _ _. true)) kept (λ _ _. refl)))
+    ∙ entries (λ _ _. true) member (reported_in g told member) (ap (member_entries member) (filter-each (judged (λ _ _. true)) old (λ _ _. refl)) ∙ is member)

@@ -1,8 +1,8 @@
 -- A group whose intervals, reports and devices are the same in two logs has the same view, except for count and epoch.
-use Rattle.pgp_group.proofs.Common.{◌≡◌, ℕ, arith, List, [], ◌++◌, Option, Some, None, is_none, Bool, true, not, ◌&&◌, nat_eq, nat_lt, length, map, fold, max, refl, ap, ap₂, ◌∙◌, if◌then◌else◌, Contains, filter, find, flat_map, list_any, range_with_len, slice_index_or, filter_map, option_and_then, option_map, option_map_or, unwrap_or, or-true, nat_tests, enough_of, is_by_place, enough_of-mono, AnyCode, is_same_member, Entry, EpochState, Member, Membership, Past, PgId, Info, Report, Verdict, History, current_first, contains-any, filter-contains, map_some, device, epoch, is_whole, held_member, members_of, prior_set, blocks-same, ascending, is_before, status, status_by, Status, incs_of, GroupLog, group_with, infos, reports, incs, has_member, is_counted, heard, last_of_each_member, les, reported, past, prior, best, whole_best, peer_states, has_osd, was_member, names, view_at, holds, in_order, needs_up_thru, is_short, view_of}
+use Rattle.pgp_group.proofs.Common.{◌≡◌, ℕ, arith, List, [], ◌++◌, Option, Some, None, is_none, Bool, true, not, ◌&&◌, nat_eq, nat_lt, length, map, fold, max, refl, ap, ap₂, ◌∙◌, if◌then◌else◌, Contains, filter, find, flat_map, list_any, range_with_len, slice_index_or, filter_map, option_and_then, option_map, option_map_or, unwrap_or, or-true, nat_tests, enough_of, is_by_place, enough_of-mono, AnyCode, is_same_member, Entry, EpochState, Member, Membership, Past, PgId, Info, Report, Verdict, History, current_first, contains-any, filter-contains, map_some, device, epoch, is_whole, held_member, members_of, prior_set, blocks-same, ascending, is_before, status, status_by, Status, incs_of, GroupLog, group_with, infos, reports, incs, has_member, is_counted, heard, last_of_each_member, les, reported, past, prior, best, whole_best, peer_states, has_osd, was_member, names, view_at, verdict_holds, in_order, needs_up_thru, is_short, view_of}
 use Rattle.pgp_ids.specs.declared.verdict.Verdict.TheVariants as the
 use Rattle.pgp_prior.specs.Blocks as block
-use Rattle.pgp_group.specs.Peering.{info_of}
+use Rattle.pgp_group.specs.Peering.{info_from}
 use Rattle.pgp_lists.proofs.Members.{any-agree}
 use Rattle.pgp_group.proofs.Lists.{filter-agree, flat_map-agree, filter_map-contains, index-contains, any-found}
 use Rattle.pgp_group.proofs.PeerLemmas.{compared}
@@ -19,7 +19,7 @@ pub record AreAlike (g after : GroupLog) : Type 0 where
   pub past : past after ≡ past g
   pub les : les after ≡ les g
   pub prior : prior after ≡ prior g
-  pub heard : (member : Member) → info_of (heard after) member ≡ info_of (heard g) member
+  pub heard : (member : Member) → info_from (heard after) member ≡ info_from (heard g) member
   pub best : best after ≡ best g
   pub reported : (member : Member) → reported after member ≡ reported g member
   pub thru : needs_up_thru after ≡ needs_up_thru g
@@ -38,7 +38,7 @@ module _ (g after : GroupLog) (same : AreAlike g after) where
       (filter_map (λ member. same.heard member i) (filter (λ member. not (is_same_member member best.member)) (present i))))
       (whole_best-same i) []
 
-  holds-same : (v : Verdict) → holds after v ≡ holds g v
+  holds-same : (v : Verdict) → verdict_holds after v ≡ verdict_holds g v
   holds-same the.NoPrimary = λ i. is_none (same.current i).acting_primary
   holds-same the.Down = λ i. (same.prior i).down
   holds-same the.Waiting = λ i. list_any (λ member. not (has_member-same member i)) (same.prior i).probe
@@ -85,8 +85,8 @@ prior-same code old now les past current agree =
     let was : Past → Bool = block.blocks (enough_of code) by_place old les in
     let is : Past → Bool = block.blocks (enough_of code) by_place now les in
     let blocked : (p : Past) → Contains past p → is p ≡ was p = λ p there. blocks-same by_place (enough_of code) (enough_of-mono code) les now old p (agree p there) in
-    let ups = flat_map-agree (block.acting_where block.is_up by_place now) (block.acting_where block.is_up by_place old) (filter (block.matters les) past)
-    (λ p there. where-same block.is_up by_place old now p (agree p ((filter-contains (block.matters les) past p there).0))) in
+    let ups = flat_map-agree (block.acting_where block.is_up_status by_place now) (block.acting_where block.is_up_status by_place old) (filter (block.matters les) past)
+    (λ p there. where-same block.is_up_status by_place old now p (agree p ((filter-contains (block.matters les) past p there).0))) in
     let downs = ap (flat_map (block.down_osds by_place now)) (filter-agree is was past blocked)
     ∙ flat_map-agree (block.down_osds by_place now) (block.down_osds by_place old) (filter was past)
     (λ p there. ap (map (λ (m : Member). m.osd))

@@ -1,6 +1,6 @@
 -- That a group which served may have gone read-write in its interval, once that is past, and that whoever serves later has
 -- reckoned with it.
-use Rattle.pgp_group.proofs.Common.{◌≡◌, ℕ, ◌+◌, ◌-◌, ◌<◌, ◌≤◌, List, [], ◌∷◌, ◌++◌, Some, None, is_some, Bool, true, false, not, nat_le, nat_lt, refl, ap, sym, ◌∙◌, subst, inl, inr, ◌⊎◌, arith, Contains, or_parts, nat_tests, filter_map-append, enough_of, is_by_place, AnyCode, osd_count, Entry, Incremental, Membership, Past, PgId, Verdict, Short, Serve, History, last_place, current_first, ending_at, contains-append, Contains-here, none_is, some_is, some_mapped, taken-along, are_checked, is_faultless, up_from, up_thru, epoch, map_fault, then_with, inc_of, incs_of, group_history, primary_facts, GroupLog, cleans, group_in, incs, IsAfter, past, Remembers, IsStillCurrent, IsRemembered, holds, place_of, verdict, ◌&&◌, ◌||◌, map, or-true, enough_of-mono, Member, Down, Waiting, filter-contains, contains-filter, map-contains, contains-map, none-contains, nat_order, ascending-contains, contains-ascending, acting_where, blocks, has_down, is_settled, matters, settled_slots, slots_of, status, Status, les, heard, has_member, prior, is_lost, acting_of, heard_or_lost, IsAccountedFor, IsReckonedWith, front-checked, last-checked}
+use Rattle.pgp_group.proofs.Common.{◌≡◌, ℕ, ◌+◌, ◌-◌, ◌<◌, ◌≤◌, List, [], ◌∷◌, ◌++◌, Some, None, is_some, Bool, true, false, not, nat_le, nat_lt, refl, ap, sym, ◌∙◌, subst, inl, inr, ◌⊎◌, arith, Contains, or_parts, nat_tests, filter_map-append, enough_of, is_by_place, AnyCode, osd_count, Entry, Incremental, Membership, Past, PgId, Verdict, Short, Serve, History, last_place, current_first, ending_at, contains-append, Contains-here, none_is, some_is, some_mapped, taken-along, are_checked, is_faultless, up_from, up_thru, epoch, map_fault, then_with, inc_of, incs_of, group_history, primary_facts, GroupLog, cleans, group_in, incs, IsAfter, past, Remembers, IsStillCurrent, IsRemembered, verdict_holds, verdict_place, verdict, ◌&&◌, ◌||◌, map, or-true, enough_of-mono, Member, Down, Waiting, filter-contains, contains-filter, map-contains, contains-map, none-contains, nat_order, ascending-contains, contains-ascending, acting_where, blocks, has_down, is_settled, matters, settled_slots, member_slots, status, Status, les, heard, has_member, prior, is_lost, acting_of, heard_or_lost, IsAccountedFor, IsReckonedWith, front-checked, last-checked}
 use Rattle.pgp_interval.specs.ReadWrite.{acting_slots, may_have_gone_rw}
 use Rattle.pgp_map.proofs.CheckedLemmas.{up_thru-more}
 use Rattle.pgp_group.proofs.DeviceLemmas.{up_from-stays}
@@ -29,7 +29,7 @@ record IsServing (g : GroupLog) (osd : ℕ) : Type 0 where
   thru : current_first g.history ≤ up_thru (incs g) osd
 
 -- no cause holds for a group that serves
-pub no_cause : (g : GroupLog) (cause : Verdict) → verdict g ≡ Serve → place_of cause < 7 → holds g cause ≡ false
+pub no_cause : (g : GroupLog) (cause : Verdict) → verdict g ≡ Serve → verdict_place cause < 7 → verdict_holds g cause ≡ false
 no_cause g cause serves before = grind arith
 
 pub not_false : (b : Bool) → not b ≡ false → b ≡ true
@@ -225,11 +225,11 @@ settled-counts g interval member serves there matters' acts settled = grind (ari
 
 -- the slots of members that are settled are among those that were heard or lost
 settled-within : (g : GroupLog) (interval : Past) → verdict g ≡ Serve → Contains (past g) interval → matters (les g) interval ≡ true
-    → is_within (settled_slots (is_by_place g.history.code) (status (incs g)) interval) (slots_of (heard_or_lost g interval)) ≡ true
+    → is_within (settled_slots (is_by_place g.history.code) (status (incs g)) interval) (member_slots (heard_or_lost g interval)) ≡ true
 settled-within g interval serves there matters' =
     let slot : Member → ℕ = λ member. member.slot in
     let settled : List Member = acting_where is_settled (is_by_place g.history.code) (status (incs g)) interval in
-    is_within-each (slots_of settled) (slots_of (heard_or_lost g interval)) (λ k in'.
+    is_within-each (member_slots settled) (member_slots (heard_or_lost g interval)) (λ k in'.
     let found = map-contains slot settled k (ascending-contains nat_lt (map slot settled) k in') in
     let member : Member = found.0 in
     let kept = filter-contains (λ (m : Member). is_settled (status (incs g) m.osd interval.first)) (acting_of g interval) member found.1.0 in

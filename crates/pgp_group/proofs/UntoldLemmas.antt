@@ -1,6 +1,6 @@
 -- What an incremental leaves as it was: devices that it doesn't name, and a group that it doesn't touch.
 use Rattle.pgp_group.proofs.Common.{◌≡◌, ℕ, arith, List, [], ◌∷◌, Option, Some, None, is_some, Bool, true, false, nat_eq, nat_lt, map, length, refl, ap, ap₂, sym, ◌∙◌, subst, inl, inr, ◌⊎◌, if◌then◌else◌, Contains, filter, list_any, option_eq, option_map_or, or_parts, eqb-true, nat_tests, same_Some, first_osd, Incremental, Membership, PgId, PoolSpec, Contains-first, Contains-later, contains-any, filter-contains, map-contains, if_some, boots, takes_down, destroys, device, is_up, map_fault, then_with, pool, temp, is_same_group, may_place_elsewhere, moves, raw_set, members_with, pool_membership, primary_facts, has_osd, changed_devices, turned_devices, moves_all, changes_pool, changes_temp}
-use Rattle.pgp_ids.specs.Pool.{is_by_place}
+use Rattle.pgp_ids.specs.Pool.{is_kind_by_place}
 use Rattle.pgp_ids.specs.declared.incremental.TempList.{TempList}
 use Rattle.pgp_sets.proofs.RawSetLemmas.{raw_set-stays, unmoved-unplaced}
 use Rattle.pgp_group.proofs.GrowthLemmas.{told-stays}
@@ -86,8 +86,8 @@ without-there up false places osd there = (filter-contains (λ (place : Option �
 -- the membership of a pool where the tree gives the first list and pg_temp the second
 lies : (ℕ → Bool) → PoolSpec → List (Option ℕ) → List (Option ℕ) → Membership
 lies up made raw given =
-    let rest = without up (is_by_place made.kind) given in
-    let placed = without up (is_by_place made.kind) raw in
+    let rest = without up (is_kind_by_place made.kind) given in
+    let placed = without up (is_kind_by_place made.kind) raw in
     members_with made placed (if nat_eq (length rest) 0 then placed else rest)
 
 membership-lies : (incs : List Incremental) (made : PoolSpec) (pg : PgId) → pool_membership incs pg made ≡ lies (is_up incs) made (raw_set incs made pg) (temp incs pg)
@@ -98,16 +98,16 @@ lies-same : (up now : ℕ → Bool) (made : PoolSpec) (raw given : List (Option 
     → lies now made raw given ≡ lies up made raw given
 unfolding lies
 lies-same up now made raw given placed chosen =
-    cc (without-same up now (is_by_place made.kind) raw placed, without-same up now (is_by_place made.kind) given chosen)
+    cc (without-same up now (is_kind_by_place made.kind) raw placed, without-same up now (is_kind_by_place made.kind) given chosen)
 
 -- the devices of acting stand in one of the two lists
 lies-there : (up : ℕ → Bool) (made : PoolSpec) (raw given : List (Option ℕ)) (osd : ℕ) → (lies up made raw given).acting_primary ≡ Some osd → (Contains raw (Some osd)) ⊎ (Contains given (Some osd))
 unfolding lies
-lies-there up made raw given osd is = by_rest (nat_eq (length (without up (is_by_place made.kind) given)) 0) is
+lies-there up made raw given osd is = by_rest (nat_eq (length (without up (is_kind_by_place made.kind) given)) 0) is
   where
-    by_rest : (b : Bool) → first_osd (if b then without up (is_by_place made.kind) raw else without up (is_by_place made.kind) given) ≡ Some osd → (Contains raw (Some osd)) ⊎ (Contains given (Some osd))
-    by_rest true first = inl (without-there up (is_by_place made.kind) raw osd (first_osd-there (without up (is_by_place made.kind) raw) osd first))
-    by_rest false first = inr (without-there up (is_by_place made.kind) given osd (first_osd-there (without up (is_by_place made.kind) given) osd first))
+    by_rest : (b : Bool) → first_osd (if b then without up (is_kind_by_place made.kind) raw else without up (is_kind_by_place made.kind) given) ≡ Some osd → (Contains raw (Some osd)) ⊎ (Contains given (Some osd))
+    by_rest true first = inl (without-there up (is_kind_by_place made.kind) raw osd (first_osd-there (without up (is_kind_by_place made.kind) raw) osd first))
+    by_rest false first = inr (without-there up (is_kind_by_place made.kind) given osd (first_osd-there (without up (is_kind_by_place made.kind) given) osd first))
 
 -- ---- a group of which the incremental tells nothing
 

@@ -37,15 +37,15 @@ abbrev pub status_noted : DeviceFacts → ℕ → Status
 status_noted entry first = status_by entry.up entry.there entry.lost_at first
 
 -- each device is up
-abbrev pub up_of : EachUp → ℕ → ℕ → Status
-up_of all osd first = Up
+abbrev pub status_up : EachUp → ℕ → ℕ → Status
+status_up all osd first = Up
 
 -- a turn of this kind may change the first status to the second
-abbrev pub allows : Turn → Status → Status → Bool
-allows turn.Better = is_no_worse
-allows turn.Worse = is_no_better
-allows turn.Gone = is_same_or_gone
-allows turn.Again = λ old new. true
+abbrev pub allows_turn : Turn → Status → Status → Bool
+allows_turn turn.Better = is_no_worse
+allows_turn turn.Worse = is_no_better
+allows_turn turn.Gone = is_same_or_gone
+allows_turn turn.Again = λ old new. true
 
 -- each acting member of these intervals is noted
 abbrev pub HasEachMember : Bool → List Past → List DeviceFacts → Type 0

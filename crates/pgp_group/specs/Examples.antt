@@ -109,12 +109,12 @@ abbrev pub delete : ℕ → List ℕ → LogEntry
 delete v object = record { version = at 1 v; change = Delete; object = object }
 
 -- entries of the log of a member, sent at epoch 1
-abbrev pub entries_of : PgId → Member → List LogEntry → Entry
-entries_of pg member log = entry.Entries (record { pg = pg; member = member; stamp = 1; log = log })
+abbrev pub entries_report : PgId → Member → List LogEntry → Entry
+entries_report pg member log = entry.Entries (record { pg = pg; member = member; stamp = 1; log = log })
 
 -- entries of the log of the first copy
 abbrev pub entries_of_first : List LogEntry → Entry
-entries_of_first log = entries_of copies_group (in_slot 0 0) log
+entries_of_first log = entries_report copies_group (in_slot 0 0) log
 
 abbrev pub lacks : List ℕ → ℕ → MissingObject
 lacks object v = record { object = object; version = at 1 v }

@@ -1,11 +1,11 @@
 -- Whom a placement group has heard since its current interval began (Ceph's developer documentation on peering; on
 -- last_epoch_started).
-use Rattle.std.specs.Prelude.{◌≡◌, ℕ, List, [], ◌∷◌, ◌++◌, Bool, false, ◌&&◌, nat_le, map, filter, fold, max, flat_map, if◌then◌else◌}
-use Rattle.std.specs.List.{list_any}
+use Rattle.std.specs.Prelude.{◌≡◌, ℕ, List, ◌++◌, ◌∷◌, Bool, false, ◌&&◌, nat_le, map, filter, fold, max, flat_map}
 use Rattle.pgp_ids.specs.Member.{is_same_member}
 use Rattle.pgp_ids.specs.declared.member.Member.{Member}
 use Rattle.pgp_ids.specs.declared.log_entry.LogEntry.{LogEntry}
 use Rattle.pgp_ids.specs.declared.report.Info.{Info}
+pub use Rattle.pgp_info.specs.Heard.{has_member, last_of_each_member}
 use Rattle.pgp_interval.specs.Runs.{current_first}
 use Rattle.pgp_map.specs.Devices.{is_up, up_from}
 use Rattle.pgp_group.specs.GroupLog.{GroupLog, incs, infos, reports}
@@ -21,16 +21,6 @@ is_counted g member stamp =
     nat_le (current_first g.history) stamp
     && is_up (incs g) member.osd
     && nat_le (up_from (incs g) member.osd) stamp
-
--- one of the infos is of this member
-abbrev pub has_member : Member → List Info → Bool
-has_member member infos = list_any (λ info. is_same_member info.member member) infos
-
--- the infos without those after which one of the same member came
-abbrev pub last_of_each_member : List Info → List Info
-last_of_each_member [] = []
-last_of_each_member (info ∷ later) =
-    if has_member info.member later then last_of_each_member later else info ∷ last_of_each_member later
 
 -- the infos of the group that count, in the order in which they came
 abbrev pub counted_infos : GroupLog → List Info

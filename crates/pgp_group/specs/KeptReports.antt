@@ -18,20 +18,20 @@ abbrev pub is_of : Member → CountedLog → Bool
 is_of member log = is_same_member log.member member
 
 -- the log of the member among these
-abbrev pub log_of : Member → List CountedLog → Option CountedLog
-log_of member logs = find (is_of member) logs
+abbrev pub member_log : Member → List CountedLog → Option CountedLog
+member_log member logs = find (is_of member) logs
 
 -- its entries; none, where there is no log of the member
-abbrev pub entries_of : Member → List CountedLog → List LogEntry
-entries_of member logs = option_map_or (λ log. log.log.entries) (log_of member logs) []
+abbrev pub member_entries : Member → List CountedLog → List LogEntry
+member_entries member logs = option_map_or (λ log. log.log.entries) (member_log member logs) []
 
 -- the reports by which the log was made count: the last of them does
-abbrev pub counts : GroupLog → CountedLog → Bool
-counts g log = is_counted g log.member log.stamp
+abbrev pub counts_log : GroupLog → CountedLog → Bool
+counts_log g log = is_counted g log.member log.stamp
 
 -- the log counts, and its last report was sent in this epoch or before
 abbrev pub counts_by : GroupLog → ℕ → CountedLog → Bool
-counts_by g at log = counts g log && nat_le log.stamp at
+counts_by g at log = counts_log g log && nat_le log.stamp at
 
 -- the log entries that the member reported in those of these reports which count, in the order in which they came
 abbrev pub reported_in : GroupLog → List Report → Member → List LogEntry
@@ -41,14 +41,14 @@ reported_in g told member =
 
 -- the log of each member has the last entry of each number, of those that it reported in these reports
 abbrev pub AreLogsOf : GroupLog → List Report → List CountedLog → Type 0
-AreLogsOf g told logs = (member : Member) → entries_of member logs ≡ by_number (reported_in g told member)
+AreLogsOf g told logs = (member : Member) → member_entries member logs ≡ by_number (reported_in g told member)
 
 -- all reports are kept. Where each was sent in this epoch or before, those logs are kept of which the ones that count are
 -- the logs by the reports that were looked at
 pub record KeepsReports (g : GroupLog) (kept : Reports) : Type 0 where
   pub inbox_is : IsInboxOf (λ report. report.stamp) (reports g) (epoch (incs g)) kept.inbox
   pub logs_sent : kept.inbox.ahead ≡ false → All (λ log. log.stamp ≤ epoch (incs g)) kept.logs.of_members.items
-  pub logs_are : kept.inbox.ahead ≡ false → AreLogsOf g (take kept.inbox.seen (reports g)) (filter (counts g) kept.logs.of_members.items)
+  pub logs_are : kept.inbox.ahead ≡ false → AreLogsOf g (take kept.inbox.seen (reports g)) (filter (counts_log g) kept.logs.of_members.items)
 
 -- the same, where each log that is kept counts
 pub record AreCounted (g : GroupLog) (kept : Reports) : Type 0 where

@@ -1,13 +1,13 @@
 -- The parts of a view, as the code of a group finds them.
 use Rattle.std.specs.Prelude.{◌≡◌, List, Some, option_map, is_some}
 use Rattle.pgp_info.specs.Heard.{Heard}
-use Rattle.pgp_info.specs.Prefers.{prefers as prefers_by}
+use Rattle.pgp_info.specs.Prefers.{prefers_with as prefers_by}
 use Rattle.pgp_info.specs.declared.preference.Preference.{Preference}
 use Rattle.pgp_ids.specs.declared.report.Info.{Info}
 use Rattle.pgp_missing.specs.Kept.{IsLogOf}
 use Rattle.pgp_group.specs.GroupLog.{GroupLog, reports}
 use Rattle.pgp_group.specs.Heard.{les, heard, reported}
-use Rattle.pgp_group.specs.KeptReports.{AreLogsOf, log_of}
+use Rattle.pgp_group.specs.KeptReports.{AreLogsOf, member_log}
 use Rattle.pgp_group.specs.Peering.{past, prior, leader, best, whole_best, peer_states}
 use Rattle.pgp_group.specs.Prefers.{prefers}
 use Rattle.pgp_group.specs.Verdict.{is_waiting}
@@ -23,7 +23,7 @@ pub record AreHeard (g : GroupLog) (found : Heard Preference) : Type 0 where
 -- these are the logs of the members by all reports that count, and that of the best info's member follows this info
 pub record AreLogsHeard (g : GroupLog) (logs : List CountedLog) : Type 0 where
   pub each : AreLogsOf g (reports g) logs
-  pub best_by_info : (info : Info) (log : CountedLog) → best g ≡ Some info → log_of info.member logs ≡ Some log
+  pub best_by_info : (info : Info) (log : CountedLog) → best g ≡ Some info → member_log info.member logs ≡ Some log
       → IsLogOf info (reported g info.member) log.log
 
 -- this is the best copy of the group, and these are the states of the others

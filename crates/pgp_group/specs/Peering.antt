@@ -62,12 +62,12 @@ abbrev pub present_members : GroupLog → List Member
 present_members g = ascending is_before (up_members g ++ acting_members g)
 
 -- the member's info among these
-abbrev pub info_of : List Info → Member → Option Info
-info_of infos member = find (λ info. is_same_member info.member member) infos
+abbrev pub info_from : List Info → Member → Option Info
+info_from infos member = find (λ info. is_same_member info.member member) infos
 
 -- those of these members that are another than that of the best info and were heard, with their infos
 abbrev pub others_heard : List Member → List Info → Info → List Info
-others_heard members heard best = filter_map (info_of heard) (filter (λ member. not (is_same_member member best.member)) members)
+others_heard members heard best = filter_map (info_from heard) (filter (λ member. not (is_same_member member best.member)) members)
 
 -- the infos of the members of up and acting that were heard, except for the best one, in ascending order of the members
 abbrev pub peers : GroupLog → Info → List Info

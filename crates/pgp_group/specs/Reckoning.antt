@@ -1,7 +1,7 @@
 -- What holds of a placement group that served, in every log that goes on from there: its interval is remembered as one in
 -- which writes may have been taken, and whoever serves later has reckoned with it (Ceph's developer documentation on peering:
 -- past intervals, up_thru, last_epoch_started; the laws are this project's own).
-use Rattle.std.specs.Prelude.{◌≡◌, ◌⊎◌, ℕ, ◌<◌, ◌≤◌, List, [], Bool, true, false, ◌||◌, nat_lt, filter, Contains}
+use Rattle.std.specs.Prelude.{◌≡◌, ◌⊎◌, ℕ, ◌<◌, ◌≤◌, List, [], true, false, ◌||◌, nat_lt, filter, Contains}
 use Rattle.std.specs.List.{list_any}
 use Rattle.pgp_code.specs.AnyCode.{enough_of, is_by_place}
 use Rattle.pgp_ids.specs.declared.incremental.Incremental.{Incremental}
@@ -11,11 +11,9 @@ use Rattle.pgp_ids.specs.declared.past.Past.{Past}
 use Rattle.pgp_interval.specs.Runs.{current_first}
 use Rattle.pgp_map.specs.Devices.{lost_at}
 use Rattle.pgp_map.specs.Map.{epoch}
-use Rattle.pgp_prior.specs.Blocks.{has_down}
-use Rattle.pgp_prior.specs.Members.{members_of, slots_of}
+use Rattle.pgp_prior.specs.Blocks.{has_down, is_lost}
+use Rattle.pgp_prior.specs.Members.{members_of, member_slots}
 use Rattle.pgp_sets.specs.Status.{status}
-use Rattle.pgp_sets.specs.declared.status.Status.{Status}
-use Rattle.pgp_sets.specs.declared.status.Status.TheVariants.{Up, Gone, Lost, Down}
 use Rattle.pgp_group.specs.GroupLog.{GroupLog, incs}
 use Rattle.pgp_group.specs.Heard.{les, heard, has_member}
 use Rattle.pgp_group.specs.Peering.{past}
@@ -46,12 +44,6 @@ IsRemembered g after =
 
 -- ---- who served is reckoned with
 
-abbrev pub is_lost : Status → Bool
-is_lost Up = false
-is_lost Gone = false
-is_lost Lost = true
-is_lost Down = false
-
 -- the acting members of a past interval
 abbrev pub acting_of : GroupLog → Past → List Member
 acting_of g interval = members_of (is_by_place g.history.code) interval.members.acting
@@ -65,7 +57,7 @@ heard_or_lost g interval =
 -- were heard or given up for lost are enough, or none of its acting members is down
 abbrev pub IsReckonedWith : GroupLog → Past → Type 0
 IsReckonedWith g interval =
-    (enough_of g.history.code (slots_of (heard_or_lost g interval)) ≡ true)
+    (enough_of g.history.code (member_slots (heard_or_lost g interval)) ≡ true)
     ⊎ (has_down (is_by_place g.history.code) (status (incs g)) interval ≡ false)
 
 -- the interval that was current is past, and it is reckoned with, or the group is known to have begun to serve after it

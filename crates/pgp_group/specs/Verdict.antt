@@ -31,15 +31,15 @@ abbrev pub is_waiting : GroupLog → Bool
 is_waiting g = list_any (λ member. not (has_member member (heard g))) (prior g).probe
 
 -- the cause of a verdict holds; nothing has to hold for the last one
-abbrev pub holds : GroupLog → Verdict → Bool
-holds g NoPrimary = is_none g.history.current.acting_primary
-holds g Down = (prior g).down
-holds g Waiting = is_waiting g
-holds g Incomplete = is_none (best g)
-holds g Short = is_short g
-holds g NeedLog = is_none (whole_best g)
-holds g NeedUpThru = needs_up_thru g
-holds g Serve = true
+abbrev pub verdict_holds : GroupLog → Verdict → Bool
+verdict_holds g NoPrimary = is_none g.history.current.acting_primary
+verdict_holds g Down = (prior g).down
+verdict_holds g Waiting = is_waiting g
+verdict_holds g Incomplete = is_none (best g)
+verdict_holds g Short = is_short g
+verdict_holds g NeedLog = is_none (whole_best g)
+verdict_holds g NeedUpThru = needs_up_thru g
+verdict_holds g Serve = true
 
 -- the verdicts, in the order in which their causes are looked at
 abbrev pub in_order : List Verdict
@@ -47,20 +47,20 @@ in_order = NoPrimary ∷ Down ∷ Waiting ∷ Incomplete ∷ Short ∷ NeedLog �
 
 -- the first verdict whose cause holds
 abbrev pub verdict : GroupLog → Verdict
-verdict g = unwrap_or (find (holds g) in_order) Serve
+verdict g = unwrap_or (find (verdict_holds g) in_order) Serve
 
 -- the place of a verdict in this order
-abbrev pub place_of : Verdict → ℕ
-place_of NoPrimary = 0
-place_of Down = 1
-place_of Waiting = 2
-place_of Incomplete = 3
-place_of Short = 4
-place_of NeedLog = 5
-place_of NeedUpThru = 6
-place_of Serve = 7
+abbrev pub verdict_place : Verdict → ℕ
+verdict_place NoPrimary = 0
+verdict_place Down = 1
+verdict_place Waiting = 2
+verdict_place Incomplete = 3
+verdict_place Short = 4
+verdict_place NeedLog = 5
+verdict_place NeedUpThru = 6
+verdict_place Serve = 7
 
 -- the verdict's cause holds, and none before it does
 pub record IsFirstCause (g : GroupLog) (verdict : Verdict) : Type 0 where
-  pub cause : holds g verdict ≡ true
-  pub none_before : (other : Verdict) → place_of other < place_of verdict → holds g other ≡ false
+  pub cause : verdict_holds g verdict ≡ true
+  pub none_before : (other : Verdict) → verdict_place other < verdict_place verdict → verdict_holds g other ≡ false

@@ -1,8 +1,7 @@
 //! Which reports count, and what the map says of a primary.
 
-ghost use Rattle.std.specs.Prelude.{◌≡◌, List};
-ghost use Rattle.pgp_ids.specs.declared.incremental.Incremental.{Incremental};
-ghost use Rattle.pgp_map.specs.MapOf.{IsMapOf};
+ghost use Rattle.std.specs.Prelude.{◌≡◌};
+ghost use Rattle.pgp_map.specs.MapOf.{Says};
 ghost use Rattle.pgp_group.specs.GroupHistory.{primary_facts};
 ghost use Rattle.pgp_group.specs.GroupLog.{GroupLog};
 ghost use Rattle.pgp_group.specs.Heard.{is_counted};
@@ -21,7 +20,7 @@ pub fn is_counted(map: &OsdMap, first: Epoch, member: Member, stamp: Epoch) -> b
 
 /// What the map says of an acting primary; where there is none, both epochs are 0.
 pub fn primary_facts(map: &OsdMap, primary: Option<OsdId>) -> PrimaryFacts
-    ensures { (incs : List Incremental) → IsMapOf incs map.now → result ≡ primary_facts incs primary }
+    ensures { Says map.now (λ incs. result ≡ primary_facts incs primary) }
 {
     match primary {
         Some(osd) => PrimaryFacts {

@@ -9,7 +9,7 @@ ghost use Rattle.pgp_prior.specs.IndexOf.{Basis, IsIndexOf};
 ghost use Rattle.pgp_prior.specs.Members.{members_of};
 ghost use Rattle.pgp_sets.specs.Status.{held_status};
 ghost use Rattle.pgp_sets.specs.declared.status.Status.{Status};
-ghost use Rattle.pgp_group.specs.DeviceFacts.{noted_of, renoted_all, has_noted, status_noted, allows, HasEachMember, GivesEach, AreOfMap};
+ghost use Rattle.pgp_group.specs.DeviceFacts.{noted_of, renoted_all, has_noted, status_noted, allows_turn, HasEachMember, GivesEach, AreOfMap};
 
 use pgp_code::AnyCode;
 use pgp_ids::{Epoch, OsdId, Past};
@@ -102,7 +102,7 @@ pub(crate) enum Turn {
 
 /// How the statuses of the device changed from the one entry to the other.
 fn turn_of(was: &DeviceFacts, now: &DeviceFacts) -> Turn
-    ensures { (first : ℕ) → allows result (status_noted was.now first) (status_noted now.now first) ≡ true }
+    ensures { (first : ℕ) → allows_turn result (status_noted was.now first) (status_noted now.now first) ≡ true }
 {
     if now.up {
         Turn::Better
@@ -140,7 +140,7 @@ pub(crate) fn renew_all(noted: &mut [DeviceFacts], index: &mut PriorIndex<AnyCod
 /// rose to up, and fell from there.
 fn renew(index: &mut PriorIndex<AnyCode>, turn: Turn, osd: OsdId, map: &OsdMap)
     ensures { (b : Basis Code) (status : ℕ → ℕ → Status) → IsIndexOf enough_of is_by_place b index.old
-        → IsChange (allows turn) (is_by_place b.code) osd (held_status map.now) b.status status b.past
+        → IsChange (allows_turn turn) (is_by_place b.code) osd (held_status map.now) b.status status b.past
         → IsIndexOf enough_of is_by_place (record b { status = status }) index.new }
 {
     match turn {
@@ -158,9 +158,9 @@ fn renew(index: &mut PriorIndex<AnyCode>, turn: Turn, osd: OsdId, map: &OsdMap)
 struct EachUp;
 
 impl StatusOf for EachUp {
-    ghost use Rattle.pgp_group.specs.DeviceFacts.{up_of};
+    ghost use Rattle.pgp_group.specs.DeviceFacts.{status_up};
 
-    ghost status_of = { up_of };
+    ghost status_of = { status_up };
 
     fn status(&self, _osd: OsdId, _first: Epoch) -> Status {
         Status::Up

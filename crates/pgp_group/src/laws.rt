@@ -39,7 +39,7 @@ ghost use Rattle.pgp_group.specs.Peering.{best, leader, is_peer, peers, peer_sta
 ghost use Rattle.pgp_group.specs.Prefers.{prefers};
 ghost use Rattle.pgp_group.specs.Verdict.{verdict, IsFirstCause};
 ghost use Rattle.pgp_group.specs.View.{scratch};
-ghost use Rattle.pgp_group.specs.Examples.{in_slot, at, on_three, shards_on, known_up, give_up, was, maps, two_shards_down, copy, copy_up_to, shard, shard_up_to, infos_sent, modify, delete, entries_of, entries_of_first, lacks, peer, three_writes, with_entries, before_serving, until_serving};
+ghost use Rattle.pgp_group.specs.Examples.{in_slot, at, on_three, shards_on, known_up, give_up, was, maps, two_shards_down, copy, copy_up_to, shard, shard_up_to, infos_sent, modify, delete, entries_report, entries_of_first, lacks, peer, three_writes, with_entries, before_serving, until_serving};
 
 /// The verdict is the first whose cause holds, and the only one that is.
 #[tactic(auto, using(crate::proofs::PartLemmas::verdict_laws))]
@@ -290,16 +290,16 @@ pub fn incomplete_primary()
 pub fn shards_that_differ_in_one_write()
     ensures best { let log = maps (shards_on_three ∷ [])
         ++ infos_sent (shard_up_to 0 0 (at 1 2) ∷ shard_up_to 1 1 (at 1 1) ∷ shard_up_to 2 2 (at 1 2) ∷ [])
-        ++ entries_of shards_group (in_slot 1 1) (modify 1 (codes "a") ∷ []) ∷ [] in
+        ++ entries_report shards_group (in_slot 1 1) (modify 1 (codes "a") ∷ []) ∷ [] in
         option_map (λ view. view.best) (scratch log shards_group) ≡ Some (Some (in_slot 1 1)) }
     ensures missing { let log = maps (shards_on_three ∷ [])
         ++ infos_sent (shard_up_to 0 0 (at 1 2) ∷ shard_up_to 1 1 (at 1 1) ∷ shard_up_to 2 2 (at 1 2) ∷ [])
-        ++ entries_of shards_group (in_slot 1 1) (modify 1 (codes "a") ∷ []) ∷ [] in
+        ++ entries_report shards_group (in_slot 1 1) (modify 1 (codes "a") ∷ []) ∷ [] in
         option_map (λ view. view.missing) (scratch log shards_group)
         ≡ Some (peer (in_slot 0 0) Diverged ∷ peer (in_slot 2 2) Diverged ∷ []) }
     ensures verdict { let log = maps (shards_on_three ∷ [])
         ++ infos_sent (shard_up_to 0 0 (at 1 2) ∷ shard_up_to 1 1 (at 1 1) ∷ shard_up_to 2 2 (at 1 2) ∷ [])
-        ++ entries_of shards_group (in_slot 1 1) (modify 1 (codes "a") ∷ []) ∷ [] in
+        ++ entries_report shards_group (in_slot 1 1) (modify 1 (codes "a") ∷ []) ∷ [] in
         option_map (λ view. view.verdict) (scratch log shards_group) ≡ Some the.NeedUpThru }
 {}
 

@@ -10,7 +10,7 @@ ghost use Rattle.pgp_ids.specs.declared.report.Report.{Report as AnyReport};
 ghost use Rattle.pgp_missing.specs.Kept.{IsLogOf};
 ghost use Rattle.pgp_missing.specs.Log.{by_number};
 ghost use Rattle.pgp_group.specs.GroupLog.{GroupLog};
-ghost use Rattle.pgp_group.specs.KeptReports.{is_of, log_of, entries_of, counts, counts_by, AreLogsOf};
+ghost use Rattle.pgp_group.specs.KeptReports.{is_of, member_log, member_entries, counts_log, counts_by, AreLogsOf};
 ghost use Rattle.pgp_group.specs.Present.{IsPresent};
 ghost use Rattle.pgp_group.specs.declared.logs.CountedLog.{CountedLog as LogOfMember};
 
@@ -80,7 +80,7 @@ impl Logs {
     /// Drops the logs of the members whose reports count no more.
     pub(crate) fn keep_counted(&mut self, map: &OsdMap, first: Epoch)
         ensures { (g : GroupLog) → IsPresent g map.now first
-            → self.new.of_members.items ≡ filter (counts g) self.old.of_members.items }
+            → self.new.of_members.items ≡ filter (counts_log g) self.old.of_members.items }
     {
         self.of_members
             .retain(|log| is_counted(map, first, log.member, log.stamp));
@@ -111,8 +111,8 @@ impl Logs {
     /// Adds the entries of a report that counts.
     fn add(&mut self, alloc: Global, report: &Report) -> Result<(), AllocError>
         ensures logs { OnOk result ((member : Sender) (reported : List Write)
-            → entries_of member self.old.of_members.items ≡ by_number reported
-            → entries_of member self.new.of_members.items
+            → member_entries member self.old.of_members.items ≡ by_number reported
+            → member_entries member self.new.of_members.items
             ≡ by_number (reported ++ (if is_same_member report.now.member member then report.now.log else []))) }
         ensures each { OnOk result ((test : Sender → ℕ → Bool) → test report.now.member report.now.stamp ≡ true
             → All (λ log. test log.member log.stamp ≡ true) self.old.of_members.items
@@ -130,12 +130,12 @@ impl Logs {
     /// Lets the log of the member with this info follow it: the info sets the bounds.
     pub(crate) fn renew(&mut self, info: &Info)
         ensures entries { (test : Sender → ℕ → Bool) (member : Sender) (reported : List Write)
-            → entries_of member (filter (λ log. test log.member log.stamp) self.old.of_members.items) ≡ by_number reported
-            → entries_of member (filter (λ log. test log.member log.stamp) self.new.of_members.items) ≡ by_number reported }
+            → member_entries member (filter (λ log. test log.member log.stamp) self.old.of_members.items) ≡ by_number reported
+            → member_entries member (filter (λ log. test log.member log.stamp) self.new.of_members.items) ≡ by_number reported }
         ensures each { (test : Sender → ℕ → Bool) → All (λ log. test log.member log.stamp ≡ true) self.old.of_members.items
             → All (λ log. test log.member log.stamp ≡ true) self.new.of_members.items }
-        ensures bounds { (log : LogOfMember) (reported : List Write) → entries_of info.now.member self.old.of_members.items ≡ by_number reported
-            → log_of info.now.member self.new.of_members.items ≡ Some log → IsLogOf info.now reported log.log }
+        ensures bounds { (log : LogOfMember) (reported : List Write) → member_entries info.now.member self.old.of_members.items ≡ by_number reported
+            → member_log info.now.member self.new.of_members.items ≡ Some log → IsLogOf info.now reported log.log }
     {
         if let Some(place) = self.place_of(info.member) {
             self.of_members[place].log.renew(info);
@@ -144,7 +144,7 @@ impl Logs {
 
     /// The log of this member, where it has reports that count.
     pub(crate) fn log_of(&self, member: Member) -> Option<&MemberLog>
-        ensures { option_copied result ≡ option_map (λ log. log.log) (log_of member self.now.of_members.items) }
+        ensures { option_copied result ≡ option_map (λ log. log.log) (member_log member self.now.of_members.items) }
     {
         match self.place_of(member) {
             Some(place) => Some(&self.of_members[place].log),

@@ -8,7 +8,7 @@ ghost use Rattle.pgp_ids.specs.declared.report.Info.{Info as Sent};
 ghost use Rattle.pgp_missing.specs.Kept.{IsLogOf};
 ghost use Rattle.pgp_missing.specs.Log.{is_whole};
 ghost use Rattle.pgp_missing.specs.Missing.{peer_state};
-ghost use Rattle.pgp_group.specs.Peering.{info_of, others_heard};
+ghost use Rattle.pgp_group.specs.Peering.{info_from, others_heard};
 
 use pgp_ids::{Info, Member, PeerMissing};
 use pgp_info::{Best, Preference};
@@ -39,7 +39,7 @@ pub(crate) fn states(
 
 /// The info of this member, where it is another than the best one and was heard.
 fn other<'a>(heard: &'a Best<Preference>, best: Member, member: &Member) -> Option<&'a Info>
-    ensures { option_copied result ≡ (if is_same_member member.now best then None else info_of heard.now.infos member.now) }
+    ensures { option_copied result ≡ (if is_same_member member.now best then None else info_from heard.now.infos member.now) }
 {
     if *member == best {
         None

@@ -1,13 +1,12 @@
 //! The causes that hold by the current interval alone.
 
-ghost use Rattle.std.specs.Prelude.{◌≡◌, ◌||◌, List, true, not, nat_lt};
+ghost use Rattle.std.specs.Prelude.{◌≡◌, ◌||◌, true, not, nat_lt};
 ghost use Rattle.std.specs.Option.{option_map_or};
 ghost use Rattle.pgp_code.specs.AnyCode.{enough_of, is_by_place};
 ghost use Rattle.pgp_ids.specs.Osds.{osd_count};
-ghost use Rattle.pgp_ids.specs.declared.incremental.Incremental.{Incremental};
 ghost use Rattle.pgp_interval.specs.ReadWrite.{acting_slots};
 ghost use Rattle.pgp_map.specs.Devices.{up_thru};
-ghost use Rattle.pgp_map.specs.MapOf.{IsMapOf};
+ghost use Rattle.pgp_map.specs.MapOf.{Says};
 
 use pgp_code::{AnyCode, Recoverable};
 use pgp_ids::{Epoch, Membership, OsdId};
@@ -25,8 +24,7 @@ pub(crate) fn is_short(code: &AnyCode, members: &Membership) -> bool
 
 /// The map has yet to say that the primary was up in the interval that began at the epoch `first`.
 pub(crate) fn needs_up_thru(map: &OsdMap, first: Epoch, primary: Option<OsdId>) -> bool
-    ensures { (incs : List Incremental) → IsMapOf incs map.now
-        → result ≡ option_map_or (λ osd. nat_lt (up_thru incs osd) first) primary true }
+    ensures { Says map.now (λ incs. result ≡ option_map_or (λ osd. nat_lt (up_thru incs osd) first) primary true) }
 {
     match primary {
         Some(osd) => map.up_thru(osd) < first,

@@ -144,15 +144,15 @@ unfoldable pub on_short : Explanation → Text
 on_short explanation = few explanation ++ fallen_part explanation.reasons.short.fallen
 
 -- the log of this member lacks these numbers of writes, or none, and is wrong all the same
-unfoldable pub log_of : Naming → Member → List Gap → Text
-log_of naming best gaps =
+unfoldable pub log_words : Naming → Member → List Gap → Text
+log_words naming best gaps =
     if length gaps == 0 then joined (codes "The log of " ∷ member_name naming best ∷ codes ", which has the best copy, is not in order." ∷ [])
     else joined (codes "The log of " ∷ member_name naming best ∷ codes ", which has the best copy, lacks the " ∷ writes_name gaps ∷ codes "." ∷ [])
 
 -- entries of the log by which objects are brought up to date haven't been reported
 abbrev pub on_log : Naming → Option Member → List Gap → Text
 on_log naming None gaps = codes "The log of its best copy is not whole."
-on_log naming (Some best) gaps = log_of naming best gaps
+on_log naming (Some best) gaps = log_words naming best gaps
 
 -- the map doesn't say yet that writes may be taken in this interval
 unfoldable pub on_up_thru : Naming → Option ℕ → ℕ → Text

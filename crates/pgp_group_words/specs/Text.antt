@@ -31,8 +31,8 @@ abbrev pub listed : List Text → Text
 listed items = listed_with (codes " and ") items
 
 -- what is said of each of these, with this before it
-abbrev pub each : {A : Type 0} → Text → (A → Text) → List A → Text
-each before words xs = flat_map (λ x. before ++ words x) xs
+abbrev pub text_of_each : {A : Type 0} → Text → (A → Text) → List A → Text
+text_of_each before words xs = flat_map (λ x. before ++ words x) xs
 
 -- what a page has: how members and epochs are named on it, and its text
 pub record Sheet : Type 0 where

@@ -9,7 +9,7 @@ use Rattle.pgp_reasons.specs.declared.fates.Writes.{Writes}
 use Rattle.pgp_reasons.specs.declared.fates.Writes.TheVariants.{Readable, Away, Gone}
 use Rattle.pgp_reasons.specs.declared.ways.Ways.{Ways}
 use Rattle.pgp_reasons.specs.declared.ways.Ways.TheVariants.{Any, Listed}
-use Rattle.pgp_group_words.specs.Text.{Text, joined, line, each}
+use Rattle.pgp_group_words.specs.Text.{Text, joined, line, text_of_each}
 use Rattle.pgp_group_words.specs.Names.{device_names, are}
 use Rattle.pgp_group_words.specs.Sentence.{sentence_of, few, naming_of, osds_part}
 use Rattle.pgp_group_words.specs.Spans.{interval_epochs}
@@ -90,7 +90,7 @@ unfoldable pub outcome_lines : Naming → Outcome → Text
 outcome_lines naming outcome = joined (
     deed_line outcome
     ∷ then_line outcome.after
-    ∷ each [] (price_line naming) outcome.price.intervals
+    ∷ text_of_each [] (price_line naming) outcome.price.intervals
     ∷ unreadable_line outcome.price.unreadable
     ∷ [])
 
@@ -100,7 +100,7 @@ outcome_lines naming outcome = joined (
 unfoldable pub outcomes_lines : Naming → List Outcome → Text
 outcomes_lines naming [] = []
 outcomes_lines naming (first ∷ others) =
-    joined (codes "  " ∷ outcome_lines naming first ∷ each (codes "  or ") (outcome_lines naming) others ∷ [])
+    joined (codes "  " ∷ outcome_lines naming first ∷ text_of_each (codes "  or ") (outcome_lines naming) others ∷ [])
 
 abbrev pub ways_heading : Verdict → Text
 ways_heading Down = codes "\nWhat ends Down:\n"

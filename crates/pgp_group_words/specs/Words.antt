@@ -3,7 +3,7 @@ use Rattle.std.specs.Prelude.{ℕ, ◌==◌, List, [], ◌∷◌, ◌++◌, leng
 use Rattle.pgp_ids.specs.Names.{verdict_name}
 use Rattle.pgp_ids.specs.declared.report.Info.{Info}
 use Rattle.pgp_group_words.specs.IntervalWords.{interval_lines}
-use Rattle.pgp_group_words.specs.Text.{Text, joined, line, each}
+use Rattle.pgp_group_words.specs.Text.{Text, joined, line, text_of_each}
 use Rattle.pgp_group_words.specs.Names.{cluster_epoch, epoch_name, group_name, leader_name, member_name, version_name, places_name}
 use Rattle.pgp_group_words.specs.Sentence.{naming_of, unheard_of, sentence_of}
 use Rattle.pgp_group_words.specs.WaysWords.{ways_lines, resort_lines}
@@ -89,7 +89,7 @@ info_words naming info = joined (
 
 -- a heading, and a line for each of these; where there are none, this alone
 unfoldable pub list_lines : {A : Type 0} → Text → (A → Text) → Text → List A → Text
-list_lines heading words none xs = if length xs == 0 then none else joined (heading ∷ each (codes "\n  ") words xs ∷ codes "\n" ∷ [])
+list_lines heading words none xs = if length xs == 0 then none else joined (heading ∷ text_of_each (codes "\n  ") words xs ∷ codes "\n" ∷ [])
 
 -- whom it has heard, and whom it has to hear yet
 unfoldable pub hearing_lines : Naming → Explanation → Text
@@ -98,16 +98,16 @@ hearing_lines naming explanation =
     ++ list_lines (codes "Not heard:") (member_name naming) [] (unheard_of explanation)
 
 -- what is said of a group, with names of this kind
-unfoldable pub lines_of : Naming → Advice → Text
-lines_of naming advice = joined (
+unfoldable pub advice_lines : Naming → Advice → Text
+advice_lines naming advice = joined (
     verdict_lines naming advice.explanation
     ∷ place_lines naming advice.explanation
     ∷ hearing_lines naming advice.explanation
-    ∷ each (codes "\n") (interval_lines naming) advice.explanation.reasons.blocking
+    ∷ text_of_each (codes "\n") (interval_lines naming) advice.explanation.reasons.blocking
     ∷ ways_lines naming advice
     ∷ resort_lines naming advice.last_resort
     ∷ [])
 
 -- what is said of a group in words
 abbrev pub words_of : Advice → EpochOffset → Text
-words_of advice offset = lines_of (naming_of advice.explanation offset) advice
+words_of advice offset = advice_lines (naming_of advice.explanation offset) advice

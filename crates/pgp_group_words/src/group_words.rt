@@ -2,7 +2,7 @@
 
 ghost use Rattle.std.specs.Prelude.{◌≡◌, IfOk, OnOk, string_bytes};
 ghost use Rattle.pgp_group_words.specs.Text.{Puts};
-ghost use Rattle.pgp_group_words.specs.Words.{acting_line, has_served, heading, hearing_lines, info_words, knows_of, lines_of, list_lines, place_lines, sender_part, served_line, verdict_lines, words_of};
+ghost use Rattle.pgp_group_words.specs.Words.{acting_line, has_served, heading, hearing_lines, info_words, knows_of, advice_lines, list_lines, place_lines, sender_part, served_line, verdict_lines, words_of};
 
 use super::advice::Advice;
 use super::explanation::Explanation;
@@ -25,9 +25,9 @@ impl Advice {
 
 impl Page {
     /// What there is to say of a group.
-    #[tactic(auto, unfolding(crate::specs::Words::lines_of))]
+    #[tactic(auto, unfolding(crate::specs::Words::advice_lines))]
     fn put_advice(&mut self, advice: &Advice) -> Result<(), AllocError>
-        ensures { OnOk result (Puts self.old self.new (lines_of self.old.naming advice.now)) }
+        ensures { OnOk result (Puts self.old self.new (advice_lines self.old.naming advice.now)) }
     {
         let explanation = &advice.explanation;
         self.put_verdict(explanation)?;

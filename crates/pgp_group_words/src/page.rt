@@ -2,7 +2,7 @@
 
 ghost use Rattle.std.specs.Prelude.{◌≡◌, [], map, IfOk, IfSome, OnOk, string_bytes};
 ghost use Rattle.pgp_group_words.specs.Names.{cluster_epoch, device_name, member_name, place_name, places_name};
-ghost use Rattle.pgp_group_words.specs.Text.{Puts, Sheet, Text, each, joint as joint_of, listed as listed_names, listed_with};
+ghost use Rattle.pgp_group_words.specs.Text.{Puts, Sheet, Text, text_of_each, joint as joint_of, listed as listed_names, listed_with};
 ghost use Rattle.pgp_group_words.specs.declared.page.Naming.{Naming as TheNaming};
 
 use super::offset::EpochOffset;
@@ -115,7 +115,7 @@ impl Page {
     /// Puts each of the items, with this before it.
     pub fn put_each<T: InWords>(&mut self, before: &str, items: &[T]) -> Result<(), AllocError>
         ensures { OnOk result (Puts self.old self.new
-            (each before.now (T.words self.old.naming) items.now)) }
+            (text_of_each before.now (T.words self.old.naming) items.now)) }
     {
         for item in items {
             self.push_str(before)?;

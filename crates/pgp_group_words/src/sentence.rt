@@ -3,7 +3,7 @@
 ghost use Rattle.std.specs.Prelude.{◌≡◌, IfOk, OnOk, string_bytes};
 ghost use Rattle.std.specs.List.{list_any};
 ghost use Rattle.std.specs.Option.{option_copied};
-ghost use Rattle.pgp_group_words.specs.Sentence.{behind_part, fallen_part, few, few_shards, held_part, informed as informed_of, informed_beside_complete as informed_beside, log_of, naming_of, none_recent, on_down, on_incomplete, on_log, on_no_primary, on_serving, on_short, on_up_thru, on_waiting, osds_part, sentence_of, starters_part, unread_part};
+ghost use Rattle.pgp_group_words.specs.Sentence.{behind_part, fallen_part, few, few_shards, held_part, informed as informed_of, informed_beside_complete as informed_beside, log_words, naming_of, none_recent, on_down, on_incomplete, on_log, on_no_primary, on_serving, on_short, on_up_thru, on_waiting, osds_part, sentence_of, starters_part, unread_part};
 ghost use Rattle.pgp_group_words.specs.Text.{Puts};
 
 use super::explanation::Explanation;
@@ -199,9 +199,9 @@ impl Page {
     }
 
     /// What is wrong with the log of this member.
-    #[tactic(auto, unfolding(crate::specs::Sentence::log_of))]
+    #[tactic(auto, unfolding(crate::specs::Sentence::log_words))]
     fn put_log_of(&mut self, best: Member, gaps: &[Gap]) -> Result<(), AllocError>
-        ensures { OnOk result (Puts self.old self.new (log_of self.old.naming best gaps.now)) }
+        ensures { OnOk result (Puts self.old self.new (log_words self.old.naming best gaps.now)) }
     {
         let best = self.name(&best)?;
         if gaps.is_empty() {

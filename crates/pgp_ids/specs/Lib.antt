@@ -3,6 +3,7 @@ pub mod Osds
 pub mod SlotSet
 pub mod SlotBits
 pub mod Bucket
+pub mod Incremental
 pub mod Version
 pub mod Names
 pub mod Member

@@ -4,7 +4,7 @@ use Rattle.pgp_ids.specs.declared.pool.PoolKind.{PoolKind}
 use Rattle.pgp_ids.specs.declared.pool.PoolKind.TheVariants.{Replicated, Erasure, Grouped}
 
 -- each member has a place of its own, which is its slot
-abbrev pub is_by_place : PoolKind → Bool
-is_by_place Replicated = false
-is_by_place (Erasure k) = true
-is_by_place (Grouped groups) = true
+abbrev pub is_kind_by_place : PoolKind → Bool
+is_kind_by_place Replicated = false
+is_kind_by_place (Erasure k) = true
+is_kind_by_place (Grouped groups) = true

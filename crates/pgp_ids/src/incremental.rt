@@ -1,3 +1,6 @@
+ghost use Rattle.std.specs.Prelude.{◌≡◌};
+ghost use Rattle.pgp_ids.specs.Incremental.{no_change};
+
 use super::bucket::BucketSpec;
 use super::epoch::Epoch;
 use super::osd::OsdId;
@@ -5,6 +8,7 @@ use super::pg_id::PgId;
 use super::place::Place;
 use super::pool::{PoolSizes, PoolSpec};
 use super::seq::Seq;
+use std::alloc::Global;
 
 /// A device's weight, in units of 1/0x10000: 0 is out, 0x10000 is fully in.
 #[derive(Clone, Copy, Debug)]
@@ -53,4 +57,26 @@ pub struct Incremental {
     pub temp: Seq<TempList>,
     /// The buckets of the placement tree that replaces the old one.
     pub crush: Option<Seq<BucketSpec>>,
+}
+
+impl Incremental {
+    /// The step from the map of the one epoch to that of the other that changes nothing else. It takes no memory.
+    pub fn empty(alloc: Global, after: Epoch, epoch: Epoch) -> Self
+        ensures { result ≡ no_change after epoch }
+    {
+        Incremental {
+            after,
+            epoch,
+            up: Seq::new(alloc),
+            down: Seq::new(alloc),
+            gone: Seq::new(alloc),
+            weight: Seq::new(alloc),
+            up_thru: Seq::new(alloc),
+            lost: Seq::new(alloc),
+            pools: Seq::new(alloc),
+            sizes: Seq::new(alloc),
+            temp: Seq::new(alloc),
+            crush: None,
+        }
+    }
 }

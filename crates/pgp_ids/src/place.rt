@@ -18,15 +18,15 @@ pub struct Place {
 
 impl Model for Place {
     ghost use Rattle.std.specs.Prelude.{ℕ, ◌≤◌, Option};
-    ghost use Rattle.pgp_ids.specs.Place.{place_of, code_of, code_of-place_of};
+    ghost use Rattle.pgp_ids.specs.Place.{place_with_code, place_code, code_of-place_of};
 
     ghost Value = { Option ℕ };
 
-    ghost view = { λ p. place_of p.code };
+    ghost view = { λ p. place_with_code p.code };
 
     ghost invariant = { λ p. p.code ≤ 4096 };
 
-    ghost inverse = { λ place. record { code = code_of place } };
+    ghost inverse = { λ place. record { code = place_code place } };
 
     ghost inverse_ok = { λ p _. code_of-place_of p };
 }

@@ -1,5 +1,5 @@
 ghost use Rattle.std.specs.Prelude.{◌≡◌};
-ghost use Rattle.pgp_ids.specs.Pool.{is_by_place};
+ghost use Rattle.pgp_ids.specs.Pool.{is_kind_by_place};
 
 use super::parts::Parts;
 use super::pool_id::PoolId;
@@ -24,7 +24,7 @@ pub enum PoolKind {
 impl PoolKind {
     /// Whether each member of a group has a place of its own, which is its slot. Otherwise all have slot 0.
     pub fn is_by_place(&self) -> bool
-        ensures { result ≡ is_by_place self.now }
+        ensures { result ≡ is_kind_by_place self.now }
     {
         match self {
             PoolKind::Replicated => false,

@@ -1,5 +1,5 @@
 ghost use Rattle.std.specs.Prelude.{◌≡◌};
-ghost use Rattle.pgp_ids.specs.TextFault.{fault_number};
+ghost use Rattle.pgp_ids.specs.TextFault.{text_fault_number};
 
 use std::alloc::AllocError;
 use thiserror::Error;
@@ -30,7 +30,7 @@ pub enum TextFault {
 impl TextFault {
     /// The number of the fault in answers.
     pub fn number(&self) -> u8
-        ensures { result ≡ fault_number self.now }
+        ensures { result ≡ text_fault_number self.now }
     {
         match self {
             TextFault::LineTooLong => 30,

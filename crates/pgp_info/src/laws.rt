@@ -7,7 +7,7 @@ ghost use Rattle.pgp_info.specs.Preference.{newest_first, oldest_first, IsPrefer
 ghost use Rattle.pgp_info.specs.Best.{HasDistinctMembers, last_start, candidates, best_info, IsBest};
 ghost use Rattle.pgp_info.specs.Heard.{without, with_info, with_infos, last_of_each_member};
 ghost use Rattle.pgp_info.specs.Lead.{best_beside};
-ghost use Rattle.pgp_info.specs.Examples.{in_slot, at, copy_up_to, fresh, device_0};
+ghost use Rattle.pgp_info.specs.Examples.{in_slot, at, info_up_to, fresh, device_0};
 
 /// Both preferences are strict total orders over infos of distinct members, whoever leads.
 #[tactic(auto, using(crate::specs::PreferenceLaws::newest_is_preference, crate::specs::PreferenceLaws::oldest_is_preference))]
@@ -110,19 +110,19 @@ pub fn start_that_falls()
 
 /// An erasure pool follows the copy that lacks the last write, a replicated pool one that has it.
 pub fn copies_that_differ_in_one_write()
-    ensures erasure { let infos = copy_up_to (at 1 2) (in_slot 0 0) ∷ copy_up_to (at 1 1) (in_slot 1 1)
-        ∷ copy_up_to (at 1 2) (in_slot 2 2) ∷ [] in
-        best_info (oldest_first device_0) infos ≡ Some (copy_up_to (at 1 1) (in_slot 1 1)) }
-    ensures replicated { let infos = copy_up_to (at 1 1) (in_slot 0 0) ∷ copy_up_to (at 1 2) (in_slot 1 0)
-        ∷ copy_up_to (at 1 2) (in_slot 2 0) ∷ [] in
-        best_info (newest_first device_0) infos ≡ Some (copy_up_to (at 1 2) (in_slot 1 0)) }
+    ensures erasure { let infos = info_up_to (at 1 2) (in_slot 0 0) ∷ info_up_to (at 1 1) (in_slot 1 1)
+        ∷ info_up_to (at 1 2) (in_slot 2 2) ∷ [] in
+        best_info (oldest_first device_0) infos ≡ Some (info_up_to (at 1 1) (in_slot 1 1)) }
+    ensures replicated { let infos = info_up_to (at 1 1) (in_slot 0 0) ∷ info_up_to (at 1 2) (in_slot 1 0)
+        ∷ info_up_to (at 1 2) (in_slot 2 0) ∷ [] in
+        best_info (newest_first device_0) infos ≡ Some (info_up_to (at 1 2) (in_slot 1 0)) }
 {}
 
 /// A copy that served before the group did last is never the best, however new its last write; nor is any where only
 /// the history tells of that time.
 pub fn copy_from_before()
     ensures older { let served = record (fresh 1) { les = 4 } in
-        let newer = record (copy_up_to (at 3 9) (in_slot 0 0)) { les = 3 } in
+        let newer = record (info_up_to (at 3 9) (in_slot 0 0)) { les = 3 } in
         best_info (newest_first device_0) (newer ∷ served ∷ []) ≡ Some served }
     ensures none { best_info (newest_first device_0) (fresh 0 ∷ record (fresh 1) { history_les = 1 } ∷ []) ≡ None }
     ensures nobody { best_info (newest_first device_0) [] ≡ None }

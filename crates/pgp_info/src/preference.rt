@@ -1,6 +1,6 @@
 ghost use Rattle.std.specs.Prelude.{◌≡◌, if◌then◌else◌};
 ghost use Rattle.pgp_info.specs.Preference.{newest_first, oldest_first};
-ghost use Rattle.pgp_info.specs.Prefers.{prefers};
+ghost use Rattle.pgp_info.specs.Prefers.{prefers_with};
 
 use super::newest_first::NewestFirst;
 use super::oldest_first::OldestFirst;
@@ -17,7 +17,7 @@ pub enum Preference {
 impl Preference {
     /// The preference of a pool in which each member has a place or none has, where this member leads.
     pub fn of_pool(by_place: bool, primary: Option<Member>) -> Self
-        ensures { prefers result ≡ (if by_place then oldest_first primary else newest_first primary) }
+        ensures { prefers_with result ≡ (if by_place then oldest_first primary else newest_first primary) }
     {
         if by_place {
             Preference::OldestFirst(OldestFirst { primary })
@@ -28,9 +28,9 @@ impl Preference {
 }
 
 impl Prefer for Preference {
-    ghost use Rattle.pgp_info.specs.Prefers.{prefers, prefers_is_preference};
+    ghost use Rattle.pgp_info.specs.Prefers.{prefers_with, prefers_is_preference};
 
-    ghost better = { prefers };
+    ghost better = { prefers_with };
 
     ghost is_preference = { prefers_is_preference };
 

@@ -7,7 +7,7 @@ use Rattle.pgp_interval.specs.History.{History, last_place}
 use Rattle.pgp_interval.specs.ReadWrite.{was_clean}
 use Rattle.pgp_interval.specs.Runs.{past_intervals}
 use Rattle.pgp_interval.specs.Raised.{raised}
-use Rattle.pgp_interval.specs.InOrder.{AreInOrder, holds}
+use Rattle.pgp_interval.specs.InOrder.{AreInOrder, holds_epoch}
 use Rattle.pgp_interval.specs.IntervalsOf.{Running, IsIntervalsOf}
 use Rattle.pgp_interval.proofs.IntervalLemmas.{lie_end_to_end}
 use Rattle.pgp_interval.proofs.CleanLemmas.{was_clean-append, past_intervals-more}
@@ -41,7 +41,7 @@ module _ {C : Type 0} (enough : C → List ℕ → Bool) (by_place : C → Bool)
     pub cleaned_current : running.first ≤ epoch → IsIntervalsOf enough by_place h all_cleans (record running { clean = true })
     cleaned_current opened =
         let before = lie_before.before in
-        let others = λ (k : ℕ) (d : Past) (below : k < length running.past). let early : (get_or running.past k d).last < running.first = before k d below in let outside : holds epoch (get_or running.past k d) ≡ false = grind (arith, nat_tests) in outside in
+        let others = λ (k : ℕ) (d : Past) (below : k < length running.past). let early : (get_or running.past k d).last < running.first = before k d below in let outside : holds_epoch epoch (get_or running.past k d) ≡ false = grind (arith, nat_tests) in outside in
         let held : was_clean (epoch ∷ []) running.first running.last ≡ true = grind (arith, nat_tests) in
         let now : was_clean all_cleans running.first running.last ≡ true = grind (arith, nat_tests, was_clean-append cleans (epoch ∷ []) running.first running.last, held) in
         record {

@@ -14,7 +14,7 @@ use Rattle.pgp_interval.specs.Runs.{current_first}
 use Rattle.pgp_interval.specs.Interval.{LieEndToEnd}
 use Rattle.pgp_ids.specs.Past.{raised_at}
 use Rattle.pgp_interval.specs.Raised.{raised}
-use Rattle.pgp_interval.specs.InOrder.{AreInOrder, holds}
+use Rattle.pgp_interval.specs.InOrder.{AreInOrder, holds_epoch}
 
 -- ---- past intervals that lie end to end are in order, and before the current one
 
@@ -55,12 +55,12 @@ lasts_rise past order i j d low below = elim (cases_lt i j) [
 abbrev pub IsPoint : ℕ → List Past → ℕ → Type 0
 IsPoint epoch past point = IsPartitionPoint (λ p. nat_lt p.last epoch ≡ true) (λ p. nat_lt p.last epoch ≡ false) past point
 
-pub held_at_point : (epoch : ℕ) (past : List Past) (point : ℕ) → IsPoint epoch past point → point < length past → (d : Past) → (get_or past point d).first ≤ epoch → holds epoch (get_or past point d) ≡ true
+pub held_at_point : (epoch : ℕ) (past : List Past) (point : ℕ) → IsPoint epoch past point → point < length past → (d : Past) → (get_or past point d).first ≤ epoch → holds_epoch epoch (get_or past point d) ≡ true
 held_at_point epoch past point splits below d opened =
     let late = splits.1 point d (omega arith) below in
     grind (arith, nat_tests)
 
-pub held_by_none_else : (epoch : ℕ) (past : List Past) (point : ℕ) → AreInOrder past → IsPoint epoch past point → (place : ℕ) (d : Past) → place < length past → (place ≡ point → epoch < (get_or past place d).first) → holds epoch (get_or past place d) ≡ false
+pub held_by_none_else : (epoch : ℕ) (past : List Past) (point : ℕ) → AreInOrder past → IsPoint epoch past point → (place : ℕ) (d : Past) → place < length past → (place ≡ point → epoch < (get_or past place d).first) → holds_epoch epoch (get_or past place d) ≡ false
 held_by_none_else epoch past point order splits place d below other = elim (cases_lt place point) [
   | inl before ↦ let early = splits.0 place d (omega arith) before in grind (arith, nat_tests)
   | inr after ↦ elim (cases_lt point place) [
@@ -96,37 +96,37 @@ set-raised_at (x ∷ xs) zero p below is = ap (λ (q : Past). record q { rw = tr
 set-raised_at (x ∷ xs) (suc place) p below is = ap (λ (rest : List Past). x ∷ rest) (set-raised_at xs place p (omega arith) is)
 
 module _ (enough : List ℕ → Bool) (by_place : Bool) (epoch : ℕ) where
-  with_flag : (p : Past) (flag : Bool) → (p.rw || (can_write enough by_place p.members && (holds epoch p || false))) ≡ flag → raised enough by_place (epoch ∷ []) p ≡ record p { rw = flag }
+  with_flag : (p : Past) (flag : Bool) → (p.rw || (can_write enough by_place p.members && (holds_epoch epoch p || false))) ≡ flag → raised enough by_place (epoch ∷ []) p ≡ record p { rw = flag }
   with_flag p flag is = ap (λ (b : Bool). let q : Past = record p { rw = b } in q) is
 
-  kept : (p : Past) → (p.rw ≡ false → can_write enough by_place p.members ≡ true → holds epoch p ≡ false) → raised enough by_place (epoch ∷ []) p ≡ p
+  kept : (p : Past) → (p.rw ≡ false → can_write enough by_place p.members ≡ true → holds_epoch epoch p ≡ false) → raised enough by_place (epoch ∷ []) p ≡ p
   kept p unless =
-      with_flag p p.rw (grind (arith, nat_tests, cases_Bool p.rw, cases_Bool (can_write enough by_place p.members), cases_Bool (holds epoch p), unless))
+      with_flag p p.rw (grind (arith, nat_tests, cases_Bool p.rw, cases_Bool (can_write enough by_place p.members), cases_Bool (holds_epoch epoch p), unless))
 
-  rises : (p : Past) → can_write enough by_place p.members ≡ true → holds epoch p ≡ true → raised enough by_place (epoch ∷ []) p ≡ record p { rw = true }
+  rises : (p : Past) → can_write enough by_place p.members ≡ true → holds_epoch epoch p ≡ true → raised enough by_place (epoch ∷ []) p ≡ record p { rw = true }
   rises p can here = with_flag p true (grind (arith, nat_tests, cases_Bool p.rw, can, here))
 
   abbrev raise : Past → Past
   raise = raised enough by_place (epoch ∷ [])
 
   -- no interval holds the epoch
-  pub none_raised : (past : List Past) → ((k : ℕ) (d : Past) → k < length past → holds epoch (get_or past k d) ≡ false) → map (raised enough by_place (epoch ∷ [])) past ≡ past
+  pub none_raised : (past : List Past) → ((k : ℕ) (d : Past) → k < length past → holds_epoch epoch (get_or past k d) ≡ false) → map (raised enough by_place (epoch ∷ [])) past ≡ past
   none_raised past others =
       map-fixes raise past (λ k d below. kept (get_or past k d) (λ quiet able. others k d below))
 
   -- r is the interval that holds the epoch
-  module _ (past : List Past) (place : ℕ) (r : Past) (below : place < length past) (is : r ≡ get_or past place r) (others : (k : ℕ) (d : Past) → k < length past → (k ≡ place → ⊥) → holds epoch (get_or past k d) ≡ false) where
+  module _ (past : List Past) (place : ℕ) (r : Past) (below : place < length past) (is : r ≡ get_or past place r) (others : (k : ℕ) (d : Past) → k < length past → (k ≡ place → ⊥) → holds_epoch epoch (get_or past k d) ≡ false) where
     at_place : (k : ℕ) (d : Past) → k ≡ place → get_or past k d ≡ r
     at_place k d here = ap (λ (n : ℕ). get_or past n d) here ∙ get_or_default past place d r below ∙ sym is
 
-    pub still_raised : (r.rw ≡ false → can_write enough by_place r.members ≡ true → holds epoch r ≡ false) → map (raised enough by_place (epoch ∷ [])) past ≡ past
+    pub still_raised : (r.rw ≡ false → can_write enough by_place r.members ≡ true → holds_epoch epoch r ≡ false) → map (raised enough by_place (epoch ∷ [])) past ≡ past
     still_raised unless =
         map-fixes raise past (λ k d within. elim (cases_Bool (nat_eq k place)) [
           | inl same ↦ let at = at_place k d (eqb-true k place same) in ap raise at ∙ kept r unless ∙ sym at
           | inr other ↦ kept (get_or past k d) (λ quiet able. others k d within (λ here. true≢false (sym (eq-eqb k place here) ∙ other)))
         ])
 
-    pub one_raised : can_write enough by_place r.members ≡ true → ((d : Past) → holds epoch (get_or past place d) ≡ true) → map (raised enough by_place (epoch ∷ [])) past ≡ raised_at place past
+    pub one_raised : can_write enough by_place r.members ≡ true → ((d : Past) → holds_epoch epoch (get_or past place d) ≡ true) → map (raised enough by_place (epoch ∷ [])) past ≡ raised_at place past
     one_raised able here =
         map-raises raise past place below
         (λ k d within other. kept (get_or past k d) (λ quiet can. others k d within other))

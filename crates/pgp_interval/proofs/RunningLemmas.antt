@@ -9,7 +9,7 @@ use Rattle.pgp_ids.specs.declared.membership.Membership.{Membership}
 use Rattle.pgp_ids.specs.declared.past.Past.{Past}
 use Rattle.pgp_interval.specs.SameMembers.{is_same}
 use Rattle.pgp_interval.specs.History.{History, last_place, stepped, stayed, grown}
-use Rattle.pgp_interval.specs.Runs.{past_of, ending_at}
+use Rattle.pgp_interval.specs.Runs.{past_interval, ending_at}
 use Rattle.pgp_interval.specs.IntervalsOf.{Running, IsIntervalsOf}
 use Rattle.pgp_interval.specs.ReadWrite.{was_clean}
 use Rattle.pgp_interval.proofs.GrownLemmas.{grown-more}
@@ -51,7 +51,7 @@ module _ {C : Type 0} (enough : C → List ℕ → Bool) (by_place : C → Bool)
   abbrev ended : Running C → PrimaryFacts → Past
   ended running facts =
       let last : EpochState = record { members = running.current; facts = facts } in
-      past_of (enough running.code) (by_place running.code) cleans running.first running.last last
+      past_interval (enough running.code) (by_place running.code) cleans running.first running.last last
 
   ended-is : (h : History C) (running : Running C) → IsIntervalsOf enough by_place h cleans running → (facts : PrimaryFacts) → ended running facts ≡ ending_at enough by_place cleans h (h.first + last_place h) facts
   ended-is h running is facts = rw (is.code_is, is.first_is, is.last_is, is.current_is) refl

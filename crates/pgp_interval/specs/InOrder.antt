@@ -7,5 +7,5 @@ pub record AreInOrder (past : List Past) : Type 0 where
   pub apart : AllPairs (λ p q. p.last < q.first) past
 
 -- the epoch is one of the interval's
-abbrev pub holds : ℕ → Past → Bool
-holds epoch p = nat_le p.first epoch && nat_le epoch p.last
+abbrev pub holds_epoch : ℕ → Past → Bool
+holds_epoch epoch p = nat_le p.first epoch && nat_le epoch p.last

@@ -19,17 +19,17 @@ opens_at h zero = true
 opens_at h (suc place) = ends_at h place
 
 -- the greatest number below the limit that passes the test, or 0
-abbrev pub greatest_below : (ℕ → Bool) → ℕ → ℕ
-greatest_below test limit = fold max 0 (filter test (range_with_len 0 limit))
+abbrev pub last_below : (ℕ → Bool) → ℕ → ℕ
+last_below test limit = fold max 0 (filter test (range_with_len 0 limit))
 
 -- where the interval that holds this place opens: the greatest opening place that is not above it
 abbrev pub opening_of : {C : Type 0} → History C → ℕ → ℕ
-opening_of h place = greatest_below (opens_at h) (place + 1)
+opening_of h place = last_below (opens_at h) (place + 1)
 
 -- the past interval from the epoch `first` to the epoch `last`, which ended in this state, of a group that was clean in these
 -- epochs
-abbrev pub past_of : (List ℕ → Bool) → Bool → List ℕ → ℕ → ℕ → EpochState → Past
-past_of enough by_place cleans first last ended =
+abbrev pub past_interval : (List ℕ → Bool) → Bool → List ℕ → ℕ → ℕ → EpochState → Past
+past_interval enough by_place cleans first last ended =
     record {
       first = first;
       last = last;
@@ -40,7 +40,7 @@ past_of enough by_place cleans first last ended =
 -- the past interval that ends at this place
 abbrev pub past_ending : {C : Type 0} → (C → List ℕ → Bool) → (C → Bool) → List ℕ → History C → ℕ → Past
 past_ending enough by_place cleans h last =
-    past_of (enough h.code) (by_place h.code) cleans (h.first + opening_of h last) (h.first + last) (state_at h last)
+    past_interval (enough h.code) (by_place h.code) cleans (h.first + opening_of h last) (h.first + last) (state_at h last)
 
 -- the last places of the past intervals, in ascending order
 abbrev pub past_ends : {C : Type 0} → History C → List ℕ
@@ -58,4 +58,4 @@ current_first h = h.first + opening_of h (last_place h)
 abbrev pub ending_at : {C : Type 0} → (C → List ℕ → Bool) → (C → Bool) → List ℕ → History C → ℕ → PrimaryFacts → Past
 ending_at enough by_place cleans h last facts =
     let ended : EpochState = record { members = h.current; facts = facts } in
-    past_of (enough h.code) (by_place h.code) cleans (current_first h) last ended
+    past_interval (enough h.code) (by_place h.code) cleans (current_first h) last ended

@@ -1,6 +1,6 @@
 ghost use Rattle.std.specs.Prelude.{◌≡◌, ℕ, List};
 ghost use Rattle.pgp_interval.specs.ReadWrite.{was_clean};
-ghost use Rattle.pgp_interval.specs.Runs.{past_of};
+ghost use Rattle.pgp_interval.specs.Runs.{past_interval};
 
 use super::read_write::may_have_gone_rw;
 use pgp_code::Recoverable;
@@ -16,7 +16,7 @@ pub fn past_of<R: Recoverable>(
     clean: bool,
 ) -> Past
     ensures { (cleans : List ℕ) → clean ≡ was_clean cleans first last
-        → result ≡ past_of (R.enough code.now) (R.by_place code.now) cleans first last ended }
+        → result ≡ past_interval (R.enough code.now) (R.by_place code.now) cleans first last ended }
 {
     let rw = may_have_gone_rw(code, &ended, first, clean);
     Past {

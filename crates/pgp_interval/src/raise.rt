@@ -1,6 +1,6 @@
 ghost use Rattle.std.specs.Prelude.{◌≡◌, ◌<◌, ℕ, [], ◌∷◌, length, map, slice_get, slice_index_or, IfSome, IsSomeAnd, MatchOption, Some, true, false};
 ghost use Rattle.pgp_ids.specs.declared.past.Past.{Past as PastInterval};
-ghost use Rattle.pgp_interval.specs.InOrder.{AreInOrder, holds};
+ghost use Rattle.pgp_interval.specs.InOrder.{AreInOrder, holds_epoch};
 ghost use Rattle.pgp_ids.specs.Past.{raised_at};
 ghost use Rattle.pgp_interval.specs.Raised.{raised};
 
@@ -30,9 +30,9 @@ pub fn place_to_raise<R: Recoverable>(code: &R, past: &[Past], epoch: Epoch) -> 
 fn place_of(past: &[Past], epoch: Epoch) -> Option<usize>
     ensures within { IfSome result (λ place. place < length past.now) }
     ensures here { AreInOrder past.now → IfSome result
-        (λ place. (d : PastInterval) → holds epoch (slice_index_or past.now place d) ≡ true) }
+        (λ place. (d : PastInterval) → holds_epoch epoch (slice_index_or past.now place d) ≡ true) }
     ensures others { AreInOrder past.now → (place : ℕ) (d : PastInterval) → place < length past.now
-        → (result ≡ Some place → ⊥) → holds epoch (slice_index_or past.now place d) ≡ false }
+        → (result ≡ Some place → ⊥) → holds_epoch epoch (slice_index_or past.now place d) ≡ false }
 {
     let place = past.partition_point(|interval| interval.last < epoch);
     if place < past.len() && past[place].first <= epoch {

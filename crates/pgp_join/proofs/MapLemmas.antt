@@ -2,13 +2,13 @@
 use Rattle.pgp_group.proofs.Common.{◌≡◌, ℕ, ◌+◌, ◌≤◌, List, Bool, true, false, not, ◌&&◌, ◌||◌, Option, Some, None, nat_eq, nat_lt, map, refl, ap, sym, ◌∙◌, arith, cond, cases_Bool, nat_tests, inl, inr, list_any, flat_map-push, option_map, option_map_or, option_or, then_with, pool, is_same_group, has_group, is_some, with_sizes, device, exists, is_up, boots, destroys, takes_down, last_where, lost_at, up_from, up_thru, are_checked, is_faultless, taken-induction, none_is, DeviceEpoch, Incremental, PgId, PoolSpec, if◌then◌else◌}
 use Rattle.std.specs.Prelude.{sum_by}
 use Rattle.std.proofs.lemmas.List.Sums.{sum_by-append}
-use Rattle.pgp_ids.specs.Pool.{is_by_place}
+use Rattle.pgp_ids.specs.Pool.{is_kind_by_place}
 use Rattle.pgp_crush.specs.Bucket.{bucket_of}
 use Rattle.pgp_tables.specs.DeviceTable.{after_down, after_gone, after_up, changed, with_lost_at, with_up_thru}
 use Rattle.pgp_tables.specs.PoolTable.{or_made}
 use Rattle.pgp_tables.specs.TempTable.{with_temp}
 use Rattle.pgp_tables.specs.declared.device.Device.{Device}
-use Rattle.pgp_map.specs.MapFault.{map_fault, given_fault, has_ahead, has_already_down, has_already_up, has_bad_pool, has_bad_temp, has_epoch_gap, has_pool_known, has_still_up, has_twice, has_unknown_device, has_up_thru_back, are_sizes, devices_that_must_exist, is_bad_list, is_pool}
+use Rattle.pgp_map.specs.MapFault.{map_fault, given_fault, has_ahead, has_already_down, has_already_up, has_bad_pool, has_bad_temp, has_epoch_gap, has_pool_known, has_still_up, names_twice, has_unknown_device, has_up_thru_back, are_sizes, devices_that_must_exist, is_bad_list, is_pool}
 use Rattle.pgp_map.specs.Pools.{group_count}
 use Rattle.pgp_map.specs.WeightTable.{with_weight}
 use Rattle.pgp_map.specs.declared.fault.MapFault.TheVariants.{EpochGap, Twice, UnknownDevice, AlreadyUp, AlreadyDown, StillUp, UpThruBack, Ahead, BadPool, PoolKnown, BadTemp}
@@ -96,7 +96,7 @@ module _ (incs others : List Incremental) (alike : SayTheSame incs others) where
     bad_pool = λ i.
         list_any (λ made. not (is_pool made)) inc.pools
         || list_any (λ sizes. not (are_sizes sizes.size sizes.min_size)
-        || option_map_or (λ made. is_by_place made.kind && not (nat_eq made.size sizes.size)) (alike.pool_is sizes.pool i) true) inc.sizes
+        || option_map_or (λ made. is_kind_by_place made.kind && not (nat_eq made.size sizes.size)) (alike.pool_is sizes.pool i) true) inc.sizes
         || nat_lt 16384 (alike.count_is i + sum_by (λ made. made.pg_num) inc.pools)
 
     known : has_pool_known others behind ≡ has_pool_known incs inc
@@ -120,7 +120,7 @@ module _ (incs others : List Incremental) (alike : SayTheSame incs others) where
             let there' : has_pool_known others behind ≡ true = known ∙ there in
             rw (there, there')
             (λ i. if gap i then Some EpochGap
-            else (if has_twice inc then Some Twice
+            else (if names_twice inc then Some Twice
             else (if unknown i then Some UnknownDevice
             else (if already_up i then Some AlreadyUp
             else (if already_down i then Some AlreadyDown
@@ -130,7 +130,7 @@ module _ (incs others : List Incremental) (alike : SayTheSame incs others) where
             else (if bad_pool i then Some BadPool else Some PoolKnown)))))))))
         | inr new ↦ λ i.
             if gap i then Some EpochGap
-            else (if has_twice inc then Some Twice
+            else (if names_twice inc then Some Twice
             else (if unknown i then Some UnknownDevice
             else (if already_up i then Some AlreadyUp
             else (if already_down i then Some AlreadyDown

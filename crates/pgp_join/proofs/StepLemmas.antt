@@ -3,7 +3,7 @@ use Rattle.pgp_group.proofs.Common.{◌≡◌, ℕ, ◌-◌, List, [], ◌∷◌
 use Rattle.pgp_ids.specs.declared.entry.Entry.TheVariants as entry
 use Rattle.pgp_ids.specs.declared.refusal.Refusal.TheVariants as refusal
 use Rattle.pgp_interval.specs.Raised.{raised}
-use Rattle.pgp_interval.specs.Runs.{past_of as past_from}
+use Rattle.pgp_interval.specs.Runs.{past_interval as past_from}
 use Rattle.pgp_map.proofs.CheckedLemmas.{checked-more}
 use Rattle.pgp_map.specs.FaultNumber.{refusal_of}
 use Rattle.pgp_group.specs.Entries.{info_of, report_of}

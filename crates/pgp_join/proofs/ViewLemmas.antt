@@ -1,15 +1,15 @@
 -- A group that is alike in two logs has the same view in both, except for the number of entries and past intervals that ended before
 -- it last began to serve.
-use Rattle.pgp_group.proofs.Common.{◌≡◌, ℕ, ◌≤◌, List, [], ◌++◌, ◌∷◌, Bool, true, false, not, ◌&&◌, Option, Some, None, is_none, nat_eq, nat_le, nat_lt, length, fold, map, max, refl, ap, sym, ◌∙◌, arith, cases_Bool, nat_tests, if◌then◌else◌, filter, find, flat_map, list_any, range_with_len, slice_get, option_and_then, option_map, option_map_or, unwrap_or, same_Some, enough_of, is_by_place, code_of, AnyCode, Entry, Incremental, Info, Member, Membership, Past, PgId, PoolSpec, Report, Verdict, History, is_before, is_same_member, is_whole, members_of, prior_set, status, is_up, epoch, pool, temp, has_group, membership, pool_membership, members_with, best_info, ascending, incs_of, infos_of, reports_of, group_history, group_with, GroupLog, has_member, heard, infos, is_counted, is_same_group, last_of_each_member, les, others_heard, past, best, peer_states, prior, reported, reports, view_of, whole_best, holds, in_order, is_short}
+use Rattle.pgp_group.proofs.Common.{◌≡◌, ℕ, ◌≤◌, List, [], ◌++◌, ◌∷◌, Bool, true, false, not, ◌&&◌, Option, Some, None, is_none, nat_eq, nat_le, nat_lt, length, fold, map, max, refl, ap, sym, ◌∙◌, arith, cases_Bool, nat_tests, if◌then◌else◌, filter, find, flat_map, list_any, range_with_len, slice_get, option_and_then, option_map, option_map_or, unwrap_or, same_Some, enough_of, is_by_place, code_of, AnyCode, Entry, Incremental, Info, Member, Membership, Past, PgId, PoolSpec, Report, Verdict, History, is_before, is_same_member, is_whole, members_of, prior_set, status, is_up, epoch, pool, temp, has_group, membership, pool_membership, members_with, best_info, ascending, incs_of, infos_of, reports_of, group_history, group_with, GroupLog, has_member, heard, infos, is_counted, is_same_group, last_of_each_member, les, others_heard, past, best, peer_states, prior, reported, reports, view_of, whole_best, verdict_holds, in_order, is_short}
 use Rattle.pgp_ids.specs.declared.verdict.Verdict.TheVariants as the
-use Rattle.pgp_ids.specs.Pool.{is_by_place as has_places}
+use Rattle.pgp_ids.specs.Pool.{is_kind_by_place as has_places}
 use Rattle.pgp_crush.specs.Bucket.{Bucket}
 use Rattle.pgp_crush.specs.Placement.{placement}
 use Rattle.pgp_map.specs.Devices.{weights}
 use Rattle.pgp_map.specs.Map.{tree}
 use Rattle.pgp_missing.specs.Missing.{peer_state}
 use Rattle.pgp_prior.specs.Blocks.{acting_where, blocks, down_osds, matters}
-use Rattle.pgp_prior.specs.Blocks.{is_up as is_up_status}
+use Rattle.pgp_prior.specs.Blocks.{is_up_status}
 use Rattle.pgp_sets.specs.declared.status.Status.{Status}
 use Rattle.pgp_sets.specs.Sets.{placement_input, rule_of}
 use Rattle.pgp_sets.specs.Status.{status_by}
@@ -133,7 +133,7 @@ module _ (log other : List Entry) (pg : PgId) (h h' : History AnyCode) (maps : S
       (les-is i) (alike.past_are i) (current-is i))
       ∙ sym (prior-kept (enough_of h.code) (is_by_place h.code) (status (incs_of log)) (les g) (les g) (omega arith) (past g) h.current)
 
-  holds-is : (v : Verdict) → holds o v ≡ holds g v
+  holds-is : (v : Verdict) → verdict_holds o v ≡ verdict_holds g v
   holds-is the.NoPrimary = λ i. is_none (current-is i).acting_primary
   holds-is the.Down = λ i. (prior-is i).down
   holds-is the.Waiting = λ i. list_any (λ member. not (has_member member (heard-is i))) (prior-is i).probe

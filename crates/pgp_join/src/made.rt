@@ -27,20 +27,7 @@ pub(crate) struct Run<'a> {
 impl Run<'_> {
     /// The incremental in this epoch that leads from the one map to the other, as far as it can be told yet.
     pub fn inc(&self, alloc: Global, epoch: Epoch) -> Result<Incremental, AllocError> {
-        let mut inc = Incremental {
-            after: self.before.epoch(),
-            epoch,
-            up: Seq::new(alloc),
-            down: Seq::new(alloc),
-            gone: Seq::new(alloc),
-            weight: Seq::new(alloc),
-            up_thru: Seq::new(alloc),
-            lost: Seq::new(alloc),
-            pools: Seq::new(alloc),
-            sizes: Seq::new(alloc),
-            temp: Seq::new(alloc),
-            crush: None,
-        };
+        let mut inc = Incremental::empty(alloc, self.before.epoch(), epoch);
         for osd in self.devices {
             self.put_device(&mut inc, *osd)?;
         }

@@ -9,7 +9,7 @@ use Rattle.pgp_lines.specs.LineFault.{LineFault}
 use Rattle.pgp_lines.specs.Shapes.{unknown_key_in}
 use Rattle.pgp_lines.specs.Format.{format_of, read_in, has_after}
 use Rattle.pgp_lines.specs.Op.{op_keys, inc_keys}
-use Rattle.pgp_lines.specs.Incremental.{with_down, with_pools, with_up, inc_of}
+use Rattle.pgp_lines.specs.Incremental.{with_down, with_pools, with_up, inc_of_line}
 use Rattle.pgp_lines.specs.Command.{known, values_of, command_of}
 use Rattle.pgp_lines.specs.declared.command.Command.{Command}
 use Rattle.pgp_lines.specs.declared.command.Command.TheVariants.{Submit}
@@ -33,7 +33,7 @@ pools-next format inc d next = grind arith
 up-next : (format : Option Format) (inc : Incremental) (d : Data) → IsNext inc → IfOk (with_up format inc d) IsNext
 up-next format inc d next = grind arith
 
-inc-next : (last : Format) (format : Option Format) (d : Data) → get (codes "after") d ≡ None → IfOk (inc_of last format d) IsNext
+inc-next : (last : Format) (format : Option Format) (d : Data) → get (codes "after") d ≡ None → IfOk (inc_of_line last format d) IsNext
 inc-next last format d lacks = rw lacks (search (from_ok IsNext IsNext, down-next, pools-next, up-next))
 
 -- the same of a command, if it is an incremental

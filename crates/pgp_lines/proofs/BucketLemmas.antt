@@ -5,7 +5,7 @@ use Rattle.std.proofs.lemmas.Int.{ints}
 use denote.Struct.Props.{props}
 use Rattle.pgp_ids.specs.Bucket.{weight_count}
 use Rattle.pgp_ids.specs.declared.bucket.BucketSpec.{BucketSpec}
-use Rattle.pgp_lines.specs.MadeBucket.{is_bucket, made_if, sound_bucket, bucket_of}
+use Rattle.pgp_lines.specs.MadeBucket.{is_bucket, made_if, sound_bucket, bucket_from}
 
 low_is_prop : (a b : ℤ) → IsProp (a ≤ℤ b)
 low_is_prop a b = hlevel props
@@ -38,6 +38,6 @@ is_bucket-true b =
     grind (arith, ints, nat_tests)
 
 -- a bucket is the one that is made of its parts
-pub bucket_of-parts : (b : BucketSpec) → bucket_of b.id b.kind b.alg b.items b.weights ≡ Some b
+pub bucket_of-parts : (b : BucketSpec) → bucket_from b.id b.kind b.alg b.items b.weights ≡ Some b
 bucket_of-parts b =
     made_here (is_bucket b.id b.alg b.items b.weights) (sound_bucket b.id b.kind b.alg b.items b.weights) b (is_bucket-true b) (same_bucket b)

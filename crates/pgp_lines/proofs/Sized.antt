@@ -6,22 +6,22 @@ use Rattle.std.proofs.lemmas.Bool.Decides.{leb_tells}
 use Rattle.std.proofs.lemmas.Option.{IfSome_then}
 use Rattle.serde_json.specs.Data.{Data}
 use Rattle.serde_json.specs.Find.{get, as_bool, as_number, as_u64, as_str}
-use Rattle.pgp_ids.specs.Pool.{is_by_place}
+use Rattle.pgp_ids.specs.Pool.{is_kind_by_place}
 use Rattle.pgp_ids.specs.declared.entry.Entry.TheVariants.{Entries}
 use Rattle.pgp_ids.specs.declared.report.Info.{Info}
 use Rattle.pgp_ids.specs.declared.report.Report.{Report}
 use Rattle.pgp_ids.specs.declared.pool.PoolKind.{PoolKind}
 use Rattle.pgp_ids.specs.declared.pool.PoolKind.TheVariants.{Replicated, Erasure, Grouped}
 use Rattle.pgp_lines.specs.LineFault.{LineFault, no_op, bad_field, ◌>>=◌}
-use Rattle.pgp_lines.specs.Shapes.{is_between, number_in, items_in, pair_in, each, list_in, has_only, field, required, unknown_key_in}
+use Rattle.pgp_lines.specs.Shapes.{is_between, number_in, items_in, pair_in, each_in, list_in, has_only, field, required, unknown_key_in}
 use Rattle.pgp_lines.specs.Trace.{code_keys, is_code, code_in, epochs_in}
-use Rattle.pgp_lines.specs.Format.{format_of, read_in, judged, has_kind}
+use Rattle.pgp_lines.specs.Format.{format_of, read_in, judged, has_pool_kind}
 use Rattle.pgp_lines.specs.Pools.{pool_kind_in}
 use Rattle.pgp_lines.specs.Ids.{osd_in, pool_id_in, word_in}
-use Rattle.pgp_lines.specs.Incremental.{inc_of}
+use Rattle.pgp_lines.specs.Incremental.{inc_of_line}
 use Rattle.pgp_lines.specs.ReportParts.{pg_in, member_in, version_in, name_in, log_entry_in, log_in}
-use Rattle.pgp_lines.specs.Reports.{last_epoch_clean_of, info_of, entries_of, ask_of, locate_of}
-use Rattle.pgp_lines.specs.Command.{trace_of, values_of, known, command_in, IsTraceCode, IsGroup, IsMember, IsEntry, IsInRange}
+use Rattle.pgp_lines.specs.Reports.{last_epoch_clean_of, info_of_line, entries_of_line, ask_of_line, locate_of_line}
+use Rattle.pgp_lines.specs.Command.{trace_of_line, values_of, known, command_in, IsTraceCode, IsGroup, IsMember, IsEntry, IsInRange}
 use Rattle.pgp_lines.specs.Op.{op_in, op_keys}
 use Rattle.pgp_lines.specs.declared.command.Command.{Command}
 use Rattle.pgp_lines.specs.declared.command.Command.TheVariants.{Locate}
@@ -85,17 +85,17 @@ within low high n is =
     let both = and_parts (nat_le low n) (nat_le n high) is in
     (at_most low n both.0, at_most n high both.1)
 
-length-each : {A : Type 0} (shape : Data → Option A) (ds : List Data) → IfSome (each shape ds) (λ xs. length xs ≡ length ds)
+length-each : {A : Type 0} (shape : Data → Option A) (ds : List Data) → IfSome (each_in shape ds) (λ xs. length xs ≡ length ds)
 length-each shape [] = refl
 length-each shape (d ∷ ds) =
     from_any (λ xs. length xs ≡ suc (length ds)) (shape d) _
-    (λ x. mapped (λ xs. length xs ≡ suc (length ds)) (λ xs. length xs ≡ length ds) (each shape ds) (λ xs. x ∷ xs) (length-each shape ds) (λ xs same. ap suc same))
+    (λ x. mapped (λ xs. length xs ≡ suc (length ds)) (λ xs. length xs ≡ length ds) (each_in shape ds) (λ xs. x ∷ xs) (length-each shape ds) (λ xs same. ap suc same))
 
 list_sized : {A : Type 0} (low high : ℕ) (shape : Data → Option A) (d : Data) → IfSome (list_in low high shape d) (λ xs. IsWithin low high (length xs))
 list_sized low high shape d =
     from_any (λ xs. IsWithin low high (length xs)) (items_in d) _
     (λ ds. tested (λ xs. IsWithin low high (length xs)) (is_between low high (length ds)) _
-    (λ is. IfSome_then (each shape ds) (length-each shape ds) (λ xs same. rw same (within low high (length ds) is))))
+    (λ is. IfSome_then (each_in shape ds) (length-each shape ds) (λ xs same. rw same (within low high (length ds) is))))
 
 number_within : (low high : ℕ) (d : Data) → IfSome (number_in low high d) (IsWithin low high)
 number_within low high d =
@@ -110,8 +110,8 @@ code_ok : (format : Format) (d : Data) → IfSome (code_in format d) IsTraceCode
 code_ok format d =
     from_any IsTraceCode (pool_kind_in d) _
     (λ kind. let of_keys = has_only (code_keys kind) d in
-    tested IsTraceCode (of_keys && is_code kind && has_kind format kind) (Some kind)
-    (λ is. trace_code kind (and_parts of_keys (is_code kind) (and_parts (of_keys && is_code kind) (has_kind format kind) is).0).1))
+    tested IsTraceCode (of_keys && is_code kind && has_pool_kind format kind) (Some kind)
+    (λ is. trace_code kind (and_parts of_keys (is_code kind) (and_parts (of_keys && is_code kind) (has_pool_kind format kind) is).0).1))
 
 group_ok : (d : Data) → IfSome (pg_in d) IsGroup
 group_ok d =
@@ -134,16 +134,16 @@ name_ok d =
 
 -- ---- the lines
 
-trace_ok : (last : Format) (format : Option Format) (d : Data) → IfOk (trace_of last format d) IsInRange
+trace_ok : (last : Format) (format : Option Format) (d : Data) → IfOk (trace_of_line last format d) IsInRange
 trace_ok last format d =
     required_then IsInRange IsTraceCode (codes "code") (code_in (read_in last format)) d _ (code_ok (read_in last format))
-    (λ code of_code. required_then IsInRange (λ epochs. IsWithin 1 4096 (length epochs)) (codes "epochs") (epochs_in (is_by_place code)) d _ (list_sized 1 4096 _)
+    (λ code of_code. required_then IsInRange (λ epochs. IsWithin 1 4096 (length epochs)) (codes "epochs") (epochs_in (is_kind_by_place code)) d _ (list_sized 1 4096 _)
     (λ epochs sized. past IsInRange (judged format) _ (λ known. (of_code, sized.0, sized.1))))
 
 abbrev IsInfo : Info → Type 0
 IsInfo info = IsGroup info.pg × IsMember info.member
 
-info_ok : (format : Option Format) (d : Data) → IfOk (info_of format d) IsInfo
+info_ok : (format : Option Format) (d : Data) → IfOk (info_of_line format d) IsInfo
 info_ok format d =
     past IsInfo (required (codes "complete") as_bool d) _
     (λ complete. required_then IsInfo IsMember (codes "from") member_in d _ member_ok
@@ -159,7 +159,7 @@ info_ok format d =
 abbrev IsReport : Report → Type 0
 IsReport report = IsEntry (Entries report)
 
-entries_ok : (format : Option Format) (d : Data) → IfOk (entries_of format d) IsReport
+entries_ok : (format : Option Format) (d : Data) → IfOk (entries_of_line format d) IsReport
 entries_ok format d =
     required_then IsReport IsMember (codes "from") member_in d _ member_ok
     (λ member of_member. required_then IsReport (λ log. IsWithin 1 256 (length log)) (codes "log") log_in d _ (list_sized 1 256 log_entry_in)
@@ -167,25 +167,25 @@ entries_ok format d =
     (λ pg of_pg. past IsReport (required (codes "stamp") word_in d) _
     (λ stamp. past IsReport (judged format) _ (λ known. (of_pg, of_member, sized.0, sized.1))))))
 
-ask_ok : (format : Option Format) (d : Data) → IfOk (ask_of format d) IsGroup
+ask_ok : (format : Option Format) (d : Data) → IfOk (ask_of_line format d) IsGroup
 ask_ok format d = required_then IsGroup IsGroup (codes "pg") pg_in d _ group_ok (λ pg ok. past IsGroup (judged format) _ (λ known. ok))
 
 abbrev IsPlace : ℕ × List ℕ → Type 0
 IsPlace object = IsInRange (Locate object.0 object.1)
 
-locate_ok : (format : Option Format) (d : Data) → IfOk (locate_of format d) IsPlace
+locate_ok : (format : Option Format) (d : Data) → IfOk (locate_of_line format d) IsPlace
 locate_ok format d =
     required_then IsPlace (λ name. IsWithin 1 255 (length name)) (codes "name") name_in d _ name_ok
     (λ name sized. required_then IsPlace (IsWithin 1 255) (codes "pool") pool_id_in d _ (number_within 1 255)
     (λ pool ranged. past IsPlace (judged format) _ (λ known. (ranged.0, ranged.1, sized.0, sized.1))))
 
 values_ok : (named : Op) (last : Format) (format : Option Format) (d : Data) → IfOk (values_of named last format d) IsInRange
-values_ok op.Ask last format d = from_ok IsInRange IsGroup (ask_of format d) _ (ask_ok format d) (λ pg ok. ok)
+values_ok op.Ask last format d = from_ok IsInRange IsGroup (ask_of_line format d) _ (ask_ok format d) (λ pg ok. ok)
 values_ok op.Close last format d = past IsInRange (judged format) _ (λ known. tt)
-values_ok op.Entries last format d = from_ok IsInRange IsReport (entries_of format d) _ (entries_ok format d) (λ report ok. ok)
-values_ok op.Inc last format d = past IsInRange (inc_of last format d) _ (λ inc. tt)
-values_ok op.Info last format d = from_ok IsInRange IsInfo (info_of format d) _ (info_ok format d) (λ info ok. ok)
-values_ok op.Locate last format d = from_ok IsInRange IsPlace (locate_of format d) _ (locate_ok format d) (λ object ok. ok)
+values_ok op.Entries last format d = from_ok IsInRange IsReport (entries_of_line format d) _ (entries_ok format d) (λ report ok. ok)
+values_ok op.Inc last format d = past IsInRange (inc_of_line last format d) _ (λ inc. tt)
+values_ok op.Info last format d = from_ok IsInRange IsInfo (info_of_line format d) _ (info_ok format d) (λ info ok. ok)
+values_ok op.Locate last format d = from_ok IsInRange IsPlace (locate_of_line format d) _ (locate_ok format d) (λ object ok. ok)
 values_ok op.Trace last format d = trace_ok last format d
 
 known_ok : (key : Option (List ℕ)) (read : Result Command LineFault) → IfOk read IsInRange → IfOk (known key read) IsInRange

@@ -4,11 +4,11 @@ use Rattle.std.proofs.lemmas.Bool.{le-leb}
 use Rattle.std.proofs.lemmas.Bool.Decides.{nat_tests}
 use Rattle.std.specs.Prelude.{if◌then◌else◌}
 use Rattle.serde_json.specs.Data.{Data}
-use Rattle.pgp_lines.specs.Shapes.{is_between, each, items_in, list_in}
+use Rattle.pgp_lines.specs.Shapes.{is_between, each_in, items_in, list_in}
 
 -- what the values are: those that were found, and each of the items that are left
 abbrev pub each_after : {A : Type 0} → (Data → Option A) → List A → List Data → Option (List A)
-each_after shape found left = option_map (λ rest. found ++ rest) (each shape left)
+each_after shape found left = option_map (λ rest. found ++ rest) (each_in shape left)
 
 -- the same of a list of low to high items
 abbrev pub list_after : {A : Type 0} → ℕ → ℕ → (Data → Option A) → List A → List Data → Option (List A)
@@ -21,13 +21,13 @@ module _ {A : Type 0} (shape : Data → Option A) where
 
   -- one item more is found
   pub each_after-next : (found : List A) (x : A) (d : Data) (ds left : List Data) → left ≡ d ∷ ds → Some x ≡ shape d → each_after shape found left ≡ each_after shape (found ++ x ∷ []) ds
-  each_after-next found x d ds left is has = rw (is, ← has) (found-next found x (each shape ds))
+  each_after-next found x d ds left is has = rw (is, ← has) (found-next found x (each_in shape ds))
 
   pub list_after-next : (low high : ℕ) (found : List A) (x : A) (d : Data) (ds left : List Data) → left ≡ d ∷ ds → shape d ≡ Some x
       → list_after low high shape found left ≡ list_after low high shape (found ++ x ∷ []) ds
   list_after-next low high found x d ds left is has =
       let longer : length found + length (d ∷ ds) ≡ length (found ++ x ∷ []) + length ds = omega (arith, length-append found (x ∷ [])) in
-      rw (is, has, longer, found-next found x (each shape ds)) refl
+      rw (is, has, longer, found-next found x (each_in shape ds)) refl
 
   -- no item is left, and they are enough
   pub list_after-end : (low high : ℕ) (found : List A) (left : List Data) → left ≡ [] → low ≤ length found → length found ≤ high
@@ -64,4 +64,4 @@ module _ {A : Type 0} (shape : Data → Option A) where
   pub list_after-start : (low high : ℕ) (d : Data) (left : List Data) → Some left ≡ items_in d → list_in low high shape d ≡ list_after low high shape [] left
   list_after-start low high d left is =
       let all : 0 + length left ≡ length left = omega arith in
-      rw (← is, all) (ap (λ rest. if is_between low high (length left) then rest else None) (started (each shape left)))
+      rw (← is, all) (ap (λ rest. if is_between low high (length left) then rest else None) (started (each_in shape left)))

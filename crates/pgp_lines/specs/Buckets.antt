@@ -8,7 +8,7 @@ use Rattle.pgp_ids.specs.declared.bucket.BucketAlg.TheVariants.{Uniform, List as
 use Rattle.pgp_ids.specs.declared.bucket.BucketSpec.{BucketSpec}
 use Rattle.pgp_lines.specs.Shapes.{integer_in, list_of, has_only, field, ◌>>=◌}
 use Rattle.pgp_lines.specs.Ids.{byte_in, word_in}
-use Rattle.pgp_lines.specs.MadeBucket.{bucket_of}
+use Rattle.pgp_lines.specs.MadeBucket.{bucket_from}
 use Rattle.pgp_lines.specs.declared.command.buckets.Head.{Head}
 
 -- the bucket's id, from -65536 to -1
@@ -42,15 +42,15 @@ weights_in Weighed d = field (codes "weights") (list_of word_in) d
 weights_in Straw2 d = field (codes "weights") (list_of word_in) d
 
 -- how a bucket chooses: an object with no keys but those of its kind
-abbrev pub alg_of : Data → Option BucketAlg
-alg_of d = do
+abbrev pub bucket_alg_in : Data → Option BucketAlg
+bucket_alg_in d = do
   alg ← field (codes "alg") alg_in d
   if has_only (bucket_keys alg) d then Some alg else None
 
 -- what a bucket is, its lists aside
 abbrev pub head_in : Data → Option Head
 head_in d = do
-  alg ← alg_of d
+  alg ← bucket_alg_in d
   id ← field (codes "id") bucket_id_in d
   kind ← field (codes "type") byte_in d
   Some (record { alg = alg; id = id; kind = kind })
@@ -61,7 +61,7 @@ bucket_in d = do
   head ← head_in d
   items ← field (codes "items") (list_of bucket_item_in) d
   weights ← weights_in head.alg d
-  bucket_of head.id head.kind head.alg items weights
+  bucket_from head.id head.kind head.alg items weights
 
 -- the buckets of a tree; an empty list is a tree without buckets
 abbrev pub tree_in : Data → Option (Option (List BucketSpec))

@@ -5,7 +5,7 @@ use Rattle.std.specs.Str.{is_utf8}
 use Rattle.serde_json.specs.Data.{Data}
 use Rattle.serde_json.specs.Read.{read}
 use Rattle.pgp_ids.specs.Parts.{are_parts}
-use Rattle.pgp_ids.specs.Pool.{is_by_place}
+use Rattle.pgp_ids.specs.Pool.{is_kind_by_place}
 use Rattle.pgp_ids.specs.declared.entry.Entry.{Entry}
 use Rattle.pgp_ids.specs.declared.entry.Entry.TheVariants.{Inc, Info, Entries, Close}
 use Rattle.pgp_ids.specs.declared.member.Member.{Member}
@@ -16,8 +16,8 @@ use Rattle.pgp_lines.specs.LineFault.{LineFault, not_json, no_op, unknown_key, �
 use Rattle.pgp_lines.specs.Op.{op_in, op_keys}
 use Rattle.pgp_lines.specs.Shapes.{unknown_key_in, required}
 use Rattle.pgp_lines.specs.Format.{format_of, read_in, judged}
-use Rattle.pgp_lines.specs.Incremental.{inc_of}
-use Rattle.pgp_lines.specs.Reports.{info_of, entries_of, ask_of, locate_of}
+use Rattle.pgp_lines.specs.Incremental.{inc_of_line}
+use Rattle.pgp_lines.specs.Reports.{info_of_line, entries_of_line, ask_of_line, locate_of_line}
 use Rattle.pgp_lines.specs.Trace.{code_in, epochs_in}
 use Rattle.pgp_lines.specs.declared.command.Command.{Command}
 use Rattle.pgp_lines.specs.declared.command.Command.TheVariants.{Submit, Ask, Locate, Trace}
@@ -26,34 +26,34 @@ use Rattle.pgp_lines.specs.declared.command.op.Op.{Op}
 use Rattle.pgp_lines.specs.declared.command.op.Op.TheVariants as op
 
 -- the line of a trace, which names this version: its keys are judged in ascending byte order, so the least bad one is named
-abbrev pub trace_of : Format → Option Format → Data → Result Command LineFault
-trace_of last format d = do
+abbrev pub trace_of_line : Format → Option Format → Data → Result Command LineFault
+trace_of_line last format d = do
   code ← required (codes "code") (code_in (read_in last format)) d
-  epochs ← required (codes "epochs") (epochs_in (is_by_place code)) d
+  epochs ← required (codes "epochs") (epochs_in (is_kind_by_place code)) d
   known ← judged format
   Ok (Trace code epochs)
 
 -- the line of this operation, past the judgement of its keys; `format` is the version that it names, None where its `v` is bad
 abbrev pub values_of : Op → Format → Option Format → Data → Result Command LineFault
 values_of op.Ask last format d = do
-  pg ← ask_of format d
+  pg ← ask_of_line format d
   Ok (Ask pg)
 values_of op.Close last format d = do
   known ← judged format
   Ok (Submit Close)
 values_of op.Entries last format d = do
-  report ← entries_of format d
+  report ← entries_of_line format d
   Ok (Submit (Entries report))
 values_of op.Inc last format d = do
-  inc ← inc_of last format d
+  inc ← inc_of_line last format d
   Ok (Submit (Inc inc))
 values_of op.Info last format d = do
-  info ← info_of format d
+  info ← info_of_line format d
   Ok (Submit (Info info))
 values_of op.Locate last format d = do
-  object ← locate_of format d
+  object ← locate_of_line format d
   Ok (Locate object.0 object.1)
-values_of op.Trace last format d = trace_of last format d
+values_of op.Trace last format d = trace_of_line last format d
 
 -- an unknown key is told before a bad value
 abbrev pub known : {A : Type 0} → Option (List ℕ) → Result A LineFault → Result A LineFault

@@ -51,10 +51,10 @@ judged format = ok_or format (bad_field (codes "v"))
 -- ---- what a version has
 
 -- it has pools, and codes of traces, of this kind: grouped ones came with the second
-abbrev pub has_kind : Format → PoolKind → Bool
-has_kind format Replicated = true
-has_kind format (Erasure k) = true
-has_kind format (Grouped groups) = nat_le 2 (format_number format)
+abbrev pub has_pool_kind : Format → PoolKind → Bool
+has_pool_kind format Replicated = true
+has_pool_kind format (Erasure k) = true
+has_pool_kind format (Grouped groups) = nat_le 2 (format_number format)
 
 -- it has buckets that choose so: straw2 buckets came with the third
 abbrev pub has_alg : Format → BucketAlg → Bool
@@ -70,7 +70,7 @@ has_after One = false
 
 -- it has each of these pools
 abbrev pub has_pools : Format → List PoolSpec → Bool
-has_pools format pools = list_all (λ pool. has_kind format pool.kind) pools
+has_pools format pools = list_all (λ pool. has_pool_kind format pool.kind) pools
 
 -- it has each bucket of the tree, where there is one
 abbrev pub has_tree : Format → Option (List BucketSpec) → Bool

@@ -15,8 +15,8 @@ abbrev pub slots_in : Data → Option (List ℕ)
 slots_in d = list_in 0 16 slot_in d
 
 -- the part of the slots in this list
-abbrev pub part_of : ℕ → List ℕ → Part
-part_of least slots = record { slots = set_of slots; least = least; twice = has_twice slots }
+abbrev pub part_from : ℕ → List ℕ → Part
+part_from least slots = record { slots = set_of slots; least = least; twice = has_twice slots }
 
 -- [list of slots, least]
 abbrev pub part_in : Data → Option Part
@@ -24,12 +24,12 @@ part_in d = do
   pair ← pair_in d
   slots ← slots_in pair.0
   least ← byte_in pair.1
-  Some (part_of least slots)
+  Some (part_from least slots)
 
 -- 16 places, the first of which hold these parts; the others are empty
-abbrev pub places_of : List Part → List (Option Part)
-places_of parts = map (λ part. Some part) parts ++ replicate (16 - length parts) None
+abbrev pub parts_by_place : List Part → List (Option Part)
+parts_by_place parts = map (λ part. Some part) parts ++ replicate (16 - length parts) None
 
 -- a list of at most 16 parts; it may be empty
 abbrev pub groups_in : Data → Option (List (Option Part))
-groups_in d = option_map places_of (list_in 0 16 part_in d)
+groups_in d = option_map parts_by_place (list_in 0 16 part_in d)

@@ -26,8 +26,8 @@ abbrev pub word_in : Data → Option ℕ
 word_in d = number_in 0 4294967295 d
 
 -- a group by its pool and its number in it
-abbrev pub group_in : Data → Data → Option PgId
-group_in pool pg = do
+abbrev pub pg_id_in : Data → Data → Option PgId
+pg_id_in pool pg = do
   pool ← pool_id_in pool
   pg ← number_in 0 1023 pg
   Some (record { pool = pool; pg = pg })

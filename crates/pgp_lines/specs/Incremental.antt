@@ -1,6 +1,7 @@
 -- The line of a map incremental, in this project's own format over JSON.
 use Rattle.std.specs.Prelude.{ℕ, ◌-◌, List, [], codes, Option, Some, None, option_map, unwrap_or, Result, Ok}
 use Rattle.serde_json.specs.Data.{Data}
+use Rattle.pgp_ids.specs.Incremental.{no_change}
 use Rattle.pgp_ids.specs.declared.incremental.Incremental.{Incremental}
 use Rattle.pgp_lines.specs.LineFault.{LineFault, ◌>>=◌}
 use Rattle.pgp_lines.specs.Shapes.{list_of, required, optional}
@@ -10,23 +11,6 @@ use Rattle.pgp_lines.specs.Devices.{device_weight_in, device_epoch_in}
 use Rattle.pgp_lines.specs.Pools.{pool_in, pool_sizes_in, temp_in}
 use Rattle.pgp_lines.specs.Buckets.{tree_in}
 use Rattle.pgp_lines.specs.declared.command.format.Format.{Format}
-
--- an incremental that changes nothing
-abbrev pub no_change : Incremental
-no_change = record {
-  after = 0;
-  epoch = 0;
-  up = [];
-  down = [];
-  gone = [];
-  weight = [];
-  up_thru = [];
-  lost = [];
-  pools = [];
-  sizes = [];
-  temp = [];
-  crush = None;
-}
 
 -- the list at a key, empty where the key is absent
 abbrev pub list_at : {A : Type 0} → List ℕ → (Data → Option A) → Data → Result (List A) LineFault
@@ -67,9 +51,9 @@ with_up format inc d = do
   Ok (record inc { up = up; up_thru = up_thru; weight = weight })
 
 -- the line of an incremental, which names this version: its keys are judged in ascending byte order, so the least bad one is named
-abbrev pub inc_of : Format → Option Format → Data → Result Incremental LineFault
-inc_of last format d = do
+abbrev pub inc_of_line : Format → Option Format → Data → Result Incremental LineFault
+inc_of_line last format d = do
   after ← optional (codes "after") after_in None d
-  down ← with_down (read_in last format) after no_change d
+  down ← with_down (read_in last format) after (no_change 0 0) d
   pools ← with_pools (read_in last format) down d
   with_up format pools d

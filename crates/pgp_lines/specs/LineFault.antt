@@ -25,8 +25,8 @@ abbrev pub IsRead : {A : Type 0} → Result A TextFault → Result A LineFault �
 IsRead result said = IfOk result (λ x. said ≡ Ok x) × IfErr result (λ fault. IfSome (line_fault_of fault) (λ f. said ≡ Err f))
 
 -- the same of a reader that puts the value in a place, where this is then
-abbrev pub IsPut : {A : Type 0} → Result (Unit {0}) TextFault → Result A LineFault → A → Type 0
-IsPut result said new = OnOk result (said ≡ Ok new) × IfErr result (λ fault. IfSome (line_fault_of fault) (λ f. said ≡ Err f))
+abbrev pub PutsRead : {A : Type 0} → Result (Unit {0}) TextFault → Result A LineFault → A → Type 0
+PutsRead result said new = OnOk result (said ≡ Ok new) × IfErr result (λ fault. IfSome (line_fault_of fault) (λ f. said ≡ Err f))
 
 infixl 10 ◌>>=◌
 -- what follows, with the value before it; the first fault stays

@@ -47,5 +47,5 @@ sound_bucket id kind alg items weights is = record {
 }
 
 -- the bucket of these parts, where they go together
-abbrev pub bucket_of : ℤ → ℕ → BucketAlg → List ℤ → List ℕ → Option BucketSpec
-bucket_of id kind alg items weights = made_if (is_bucket id alg items weights) (sound_bucket id kind alg items weights)
+abbrev pub bucket_from : ℤ → ℕ → BucketAlg → List ℤ → List ℕ → Option BucketSpec
+bucket_from id kind alg items weights = made_if (is_bucket id alg items weights) (sound_bucket id kind alg items weights)

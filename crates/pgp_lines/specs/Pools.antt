@@ -10,7 +10,7 @@ use Rattle.pgp_ids.specs.declared.pool.PoolSizes.{PoolSizes}
 use Rattle.pgp_ids.specs.declared.pool.PoolSpec.{PoolSpec}
 use Rattle.pgp_lines.specs.Shapes.{number_in, triple_in, list_of, has_only, field, ◌>>=◌}
 use Rattle.pgp_lines.specs.Groups.{groups_in}
-use Rattle.pgp_lines.specs.Ids.{place_in, pool_id_in, byte_in, group_in}
+use Rattle.pgp_lines.specs.Ids.{place_in, pool_id_in, byte_in, pg_id_in}
 
 -- the keys of a pool's object
 abbrev pub pool_keys : PoolKind → List (List ℕ)
@@ -62,6 +62,6 @@ pool_sizes_in d = do
 abbrev pub temp_in : Data → Option TempList
 temp_in d = do
   parts ← triple_in d
-  pg ← group_in parts.0 parts.1
+  pg ← pg_id_in parts.0 parts.1
   osds ← list_of (place_in true) parts.2
   Some (record { pg = pg; osds = osds })

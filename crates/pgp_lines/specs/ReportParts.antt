@@ -10,13 +10,13 @@ use Rattle.pgp_ids.specs.declared.log_entry.LogEntry.{LogEntry}
 use Rattle.pgp_ids.specs.declared.pg_id.PgId.{PgId}
 use Rattle.pgp_ids.specs.declared.version.Version.{Version}
 use Rattle.pgp_lines.specs.Shapes.{is_between, number_in, pair_in, quadruple_in, list_in, ◌>>=◌}
-use Rattle.pgp_lines.specs.Ids.{osd_in, word_in, group_in}
+use Rattle.pgp_lines.specs.Ids.{osd_in, word_in, pg_id_in}
 
 -- [pool, pg]
 abbrev pub pg_in : Data → Option PgId
 pg_in d = do
   parts ← pair_in d
-  group_in parts.0 parts.1
+  pg_id_in parts.0 parts.1
 
 -- [device, slot]
 abbrev pub member_in : Data → Option Member

@@ -17,8 +17,8 @@ abbrev pub last_epoch_clean_of : Data → Result ℕ LineFault
 last_epoch_clean_of d = optional (codes "last_epoch_clean") word_in 0 d
 
 -- the line of an info: its keys are judged in ascending byte order, so the least bad one is named
-abbrev pub info_of : Option Format → Data → Result Info LineFault
-info_of format d = do
+abbrev pub info_of_line : Option Format → Data → Result Info LineFault
+info_of_line format d = do
   complete ← required (codes "complete") as_bool d
   member ← required (codes "from") member_in d
   history_les ← required (codes "history_les") word_in d
@@ -42,8 +42,8 @@ info_of format d = do
   })
 
 -- the line of 1 to 256 log entries
-abbrev pub entries_of : Option Format → Data → Result Report LineFault
-entries_of format d = do
+abbrev pub entries_of_line : Option Format → Data → Result Report LineFault
+entries_of_line format d = do
   member ← required (codes "from") member_in d
   log ← required (codes "log") log_in d
   pg ← required (codes "pg") pg_in d
@@ -52,15 +52,15 @@ entries_of format d = do
   Ok (record { pg = pg; member = member; stamp = stamp; log = log })
 
 -- the group that a line asks about
-abbrev pub ask_of : Option Format → Data → Result PgId LineFault
-ask_of format d = do
+abbrev pub ask_of_line : Option Format → Data → Result PgId LineFault
+ask_of_line format d = do
   pg ← required (codes "pg") pg_in d
   known ← judged format
   Ok pg
 
 -- the pool and the name of the object that a line asks for
-abbrev pub locate_of : Option Format → Data → Result (ℕ × List ℕ) LineFault
-locate_of format d = do
+abbrev pub locate_of_line : Option Format → Data → Result (ℕ × List ℕ) LineFault
+locate_of_line format d = do
   name ← required (codes "name") name_in d
   pool ← required (codes "pool") pool_id_in d
   known ← judged format

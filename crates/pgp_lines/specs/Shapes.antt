@@ -56,17 +56,17 @@ abbrev pub quadruple_in : Data → Option (Data × Data × Data × Data)
 quadruple_in d = option_and_then four_of (items_in d)
 
 -- what the values are, where each has this shape
-abbrev pub each : {A : Type 0} → (Data → Option A) → List Data → Option (List A)
-each shape [] = Some []
-each shape (d ∷ ds) = option_and_then (λ x. option_map (λ xs. x ∷ xs) (each shape ds)) (shape d)
+abbrev pub each_in : {A : Type 0} → (Data → Option A) → List Data → Option (List A)
+each_in shape [] = Some []
+each_in shape (d ∷ ds) = option_and_then (λ x. option_map (λ xs. x ∷ xs) (each_in shape ds)) (shape d)
 
 -- a list of low to high items of this shape
 abbrev pub list_in : {A : Type 0} → ℕ → ℕ → (Data → Option A) → Data → Option (List A)
-list_in low high shape d = option_and_then (λ ds. if is_between low high (length ds) then each shape ds else None) (items_in d)
+list_in low high shape d = option_and_then (λ ds. if is_between low high (length ds) then each_in shape ds else None) (items_in d)
 
 -- a list of any length of items of this shape
 abbrev pub list_of : {A : Type 0} → (Data → Option A) → Data → Option (List A)
-list_of shape d = option_and_then (each shape) (items_in d)
+list_of shape d = option_and_then (each_in shape) (items_in d)
 
 -- the lesser of two texts in byte order
 abbrev pub lesser : List ℕ → List ℕ → List ℕ

@@ -8,7 +8,7 @@ use Rattle.pgp_ids.specs.Parts.{are_parts}
 use Rattle.pgp_ids.specs.declared.history.EpochState.{EpochState}
 use Rattle.pgp_ids.specs.declared.history.PrimaryFacts.{PrimaryFacts}
 use Rattle.pgp_ids.specs.declared.membership.Membership.{Membership}
-use Rattle.pgp_lines.specs.Format.{has_kind}
+use Rattle.pgp_lines.specs.Format.{has_pool_kind}
 use Rattle.pgp_lines.specs.Ids.{place_in, word_in}
 use Rattle.pgp_lines.specs.Pools.{pool_kind_in}
 use Rattle.pgp_lines.specs.Shapes.{is_between, number_in, list_in, has_only, field, ◌>>=◌}
@@ -30,15 +30,15 @@ is_code (Grouped groups) = are_parts 16 groups
 abbrev pub code_in : Format → Data → Option PoolKind
 code_in format d = do
   kind ← pool_kind_in d
-  if has_only (code_keys kind) d && is_code kind && has_kind format kind then Some kind else None
+  if has_only (code_keys kind) d && is_code kind && has_pool_kind format kind then Some kind else None
 
 -- the places of a list of devices, at most 16
 abbrev pub osds_in : Bool → Data → Option (List (Option ℕ))
 osds_in nulls d = list_in 0 16 (place_in nulls) d
 
 -- whom a group has: each primary is the first device of its list
-abbrev pub membership : List (Option ℕ) → List (Option ℕ) → ℕ → ℕ → Membership
-membership up acting size min_size = record {
+abbrev pub traced_membership : List (Option ℕ) → List (Option ℕ) → ℕ → ℕ → Membership
+traced_membership up acting size min_size = record {
   up = up;
   up_primary = first_osd up;
   acting = acting;
@@ -50,7 +50,7 @@ membership up acting size min_size = record {
 -- an epoch's state
 abbrev pub epoch_state : List (Option ℕ) → List (Option ℕ) → ℕ → ℕ → ℕ → ℕ → EpochState
 epoch_state up acting size min_size up_from up_thru =
-    record { members = membership up acting size min_size; facts = record { up_from = up_from; up_thru = up_thru } }
+    record { members = traced_membership up acting size min_size; facts = record { up_from = up_from; up_thru = up_thru } }
 
 -- the keys that an epoch's object must have
 abbrev pub epoch_keys : List (List ℕ)

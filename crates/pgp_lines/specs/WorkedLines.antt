@@ -15,7 +15,7 @@ use Rattle.pgp_ids.specs.declared.pool.PoolKind.{PoolKind}
 use Rattle.pgp_ids.specs.declared.pool.PoolKind.TheVariants.{Replicated, Erasure, Grouped}
 use Rattle.pgp_ids.specs.declared.report.Info.{Info}
 use Rattle.pgp_ids.specs.declared.report.Report.{Report}
-use Rattle.pgp_lines.specs.Incremental.{no_change}
+use Rattle.pgp_ids.specs.Incremental.{no_change}
 use Rattle.pgp_lines.specs.LineFault.{bad_field}
 use Rattle.pgp_lines.specs.MadeBucket.{sound_bucket}
 use Rattle.pgp_lines.specs.Command.{command_of}
@@ -66,12 +66,12 @@ abbrev pub erasure_command : Command
 erasure_command = Trace (Erasure 16) (epoch_state (None ∷ Some 3 ∷ []) (None ∷ []) 16 16 0 4294967295 ∷ [])
 
 -- a part with these slots, none of which was twice in its list
-abbrev pub part_of : List ℕ → ℕ → Option Part
-part_of slots least = Some (record { slots = slots; least = least; twice = false })
+abbrev pub worked_part : List ℕ → ℕ → Option Part
+worked_part slots least = Some (record { slots = slots; least = least; twice = false })
 
 -- the 16 places of a code that wants one of the slots 0 and 1, and slot 2
-abbrev pub pair_and_one : List (Option Part)
-pair_and_one = part_of (0 ∷ 1 ∷ []) 1 ∷ part_of (2 ∷ []) 1 ∷ replicate 14 None
+abbrev pub pair_and_single : List (Option Part)
+pair_and_single = worked_part (0 ∷ 1 ∷ []) 1 ∷ worked_part (2 ∷ []) 1 ∷ replicate 14 None
 
 -- a trace of one epoch by this code, with more keys; one of its places is empty
 abbrev pub trace_with : List ℕ → List ℕ → List ℕ
@@ -102,7 +102,7 @@ inc_of_three keys = codes "{\"op\":\"inc\",\"v\":3," ++ keys ++ codes "}"
 
 -- an incremental that does nothing
 abbrev pub empty_inc : ℕ → Incremental
-empty_inc epoch = record no_change { after = epoch - 1; epoch = epoch }
+empty_inc epoch = no_change (epoch - 1) epoch
 
 -- devices whose weight becomes 0
 abbrev pub out_of : List ℕ → List DeviceWeight

@@ -1,5 +1,5 @@
 -- The numbers from one on, and tests and filters over them.
-use Rattle.std.proofs.Common.{◌≡◌, ℕ, zero, suc, ◌+◌, ◌<◌, List, [], ◌∷◌, ◌++◌, Bool, true, false, ◌&&◌, cond, filter, get_or, length, map, refl, ap, ◌∙◌, arith, add-one, append-nil}
+use Rattle.std.proofs.Common.{◌≡◌, ℕ, zero, suc, ◌+◌, ◌<◌, List, [], ◌∷◌, ◌++◌, Bool, true, false, ◌&&◌, cond, filter, get_or, length, map, refl, ap, ap₂, ◌∙◌, arith, add-one, append-nil}
 use Rattle.std.specs.List.{Contains, list_all, list_any, range_with_len}
 use Rattle.std.proofs.lemmas.List.{map_push}
 use Rattle.std.proofs.lemmas.List.Elements.{filter-append}
@@ -12,6 +12,14 @@ pub range_with_len-suc : (a n : ℕ) → range_with_len a (suc n) ≡ range_with
 range_with_len-suc a zero = ap (λ x. x ∷ []) (omega arith)
 range_with_len-suc a (suc n) =
     ap (λ xs. a ∷ xs) (range_with_len-suc (a + 1) n ∙ ap (λ x. range_with_len (a + 1) n ++ x ∷ []) (omega arith))
+
+pub range-append : (a n m : ℕ) → range_with_len a (n + m) ≡ range_with_len a n ++ range_with_len (a + n) m
+range-append a zero m = ap₂ range_with_len (omega arith) (omega arith)
+range-append a (suc n) m =
+    let more : suc n + m ≡ suc (n + m) = omega arith in
+    let from : (a + 1) + n ≡ a + suc n = omega arith in
+    ap (range_with_len a) more
+    ∙ ap (λ xs. a ∷ xs) (range-append (a + 1) n m ∙ ap (λ b. range_with_len (a + 1) n ++ range_with_len b m) from)
 
 -- the same numbers, one higher
 pub all-range_shifted : (test : ℕ → Bool) (a n : ℕ) → list_all test (range_with_len (suc a) n) ≡ list_all (λ k. test (suc k)) (range_with_len a n)

@@ -41,7 +41,7 @@ pub use Rattle.pgp_lists.proofs.Bools.{and3_parts}
 pub use Rattle.pgp_lists.proofs.Lists.{any-mapped, get-append}
 pub use Rattle.pgp_lists.proofs.Options.{if_none, map_some, none_is, some-weaker, some_mapped}
 pub use Rattle.pgp_log.specs.Fits.{entry_fault, fits, full_fault, is_close, is_closed}
-pub use Rattle.pgp_log.specs.Log.{EndsWithClose, HasInc, epoch_of, is_accepted, is_legal, is_taken_at}
+pub use Rattle.pgp_log.specs.Log.{EndsWithClose, HasInc, epoch_of, is_accepted, is_legal, is_accepted_at}
 pub use Rattle.pgp_log.specs.MapBefore.{IsMapBefore, makes_heavier, renamed_devices, with_facts}
 pub use Rattle.pgp_log.specs.RawSets.{AreRawSets, IsRawSet, moves_any}
 pub use Rattle.pgp_log.specs.ReportFault.{has_bad_info, has_future_stamp, has_unknown_group, has_unknown_member, info_fault, report_fault}
@@ -55,7 +55,7 @@ pub use Rattle.pgp_map.specs.Devices.{boots}
 pub use Rattle.pgp_map.specs.FaultNumber.{refusal_of, tree_refusal}
 pub use Rattle.pgp_map.specs.Held.{HasGroup}
 pub use Rattle.pgp_map.specs.Map.{epoch}
-pub use Rattle.pgp_map.specs.MapFault.{given_fault, is_within, map_fault, then_with}
+pub use Rattle.pgp_map.specs.MapFault.{given_fault, is_from_one_to, map_fault, then_with}
 pub use Rattle.pgp_map.specs.MapOf.{IsMapOf, Says}
 pub use Rattle.pgp_map.specs.Pools.{has_group, is_same_group, pool, temp, with_sizes}
 pub use Rattle.pgp_map.specs.declared.fault.MapFault.{MapFault}

@@ -26,7 +26,7 @@ passes_if P false x y one other = other
 
 -- the fault of a tree has a number
 abbrev HasNumber : TreeFault → Type 0
-HasNumber f = tree_refusal (tree.fault_number f) ≢ refusal.Memory
+HasNumber f = tree_refusal (tree.tree_fault_number f) ≢ refusal.Memory
 
 -- the fault is no lack of memory
 abbrev IsOther : MapFault → Type 0

@@ -1,7 +1,7 @@
 -- The map has the group in which an object of a pool that is there lies.
-use Rattle.pgp_log.proofs.Common.{◌≡◌, ℕ, ◌<◌, List, true, false, Some, nat_lt, ap, ◌∙◌, arith, nat_tests, and_parts, option_map_or, Incremental, PgId, PoolSpec, OsdMap, are_checked, HasGroup, is_within, IsMapOf, pool, pools-in_range, checked-has_group}
+use Rattle.pgp_log.proofs.Common.{◌≡◌, ℕ, ◌<◌, List, true, false, Some, nat_lt, ap, ◌∙◌, arith, nat_tests, and_parts, option_map_or, Incremental, PgId, PoolSpec, OsdMap, are_checked, HasGroup, is_from_one_to, IsMapOf, pool, pools-in_range, checked-has_group}
 
-above_0 : (most n : ℕ) → is_within most n ≡ true → 0 < n
+above_0 : (most n : ℕ) → is_from_one_to most n ≡ true → 0 < n
 above_0 most n within = grind (arith, nat_tests)
 
 -- a pool has a group

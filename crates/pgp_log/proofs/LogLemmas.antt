@@ -1,12 +1,12 @@
 -- What holds of legal logs.
-use Rattle.pgp_log.proofs.Common.{◌≡◌, ℕ, ◌<◌, ◌≤◌, List, [], ◌∷◌, ◌++◌, Option, None, is_none, true, false, length, take, refl, ap, ap₂, sym, ◌∙◌, arith, length-append, option_map_or, take-append-le, get-append, none_is, Entry, are_checked, incs_of, fits, is_close, is_closed, is_accepted, is_taken_at, is_legal, EndsWithClose, EpochsAscend, epochs_ascend}
+use Rattle.pgp_log.proofs.Common.{◌≡◌, ℕ, ◌<◌, ◌≤◌, List, [], ◌∷◌, ◌++◌, Option, None, is_none, true, false, length, take, refl, ap, ap₂, sym, ◌∙◌, arith, length-append, option_map_or, take-append-le, get-append, none_is, Entry, are_checked, incs_of, fits, is_close, is_closed, is_accepted, is_accepted_at, is_legal, EndsWithClose, EpochsAscend, epochs_ascend}
 use Rattle.pgp_lists.proofs.Taken.{taken-front, taken-induction, taken-last, taken-more, taken-take}
 use Rattle.pgp_ids.specs.declared.entry.Entry.TheVariants as entry
 use Rattle.pgp_log.proofs.TakeLemmas.{checked-push, closed-push, fits-faultless, fits-open_log, room-push}
 
 -- ---- fronts, and one entry more
 
-pub taken_in_front : (log later : List Entry) (n : ℕ) → n < length log → is_taken_at (log ++ later) n ≡ is_taken_at log n
+pub taken_in_front : (log later : List Entry) (n : ℕ) → n < length log → is_accepted_at (log ++ later) n ≡ is_accepted_at log n
 taken_in_front log later n below =
     ap₂ (λ (before : List Entry) (found : Option Entry). option_map_or (is_accepted before) found true)
     (take-append-le n log later (omega arith)) (get-append log later n below)

@@ -1,7 +1,8 @@
 -- What an incremental touches, and what it changes at all.
-use Rattle.pgp_log.proofs.Common.{◌≡◌, ℕ, List, [], ◌∷◌, ◌++◌, Bool, true, false, not, ◌||◌, map, length, refl, sym, ap, ◌∙◌, arith, list_any, ◌==◌, not-false, not-true, or_parts, true_from_ne_false, true≢false, nat_tests, list_any-append, and3_parts, Entry, DeviceEpoch, Incremental, PgId, may_place_elsewhere, untouched-unmoved, unplaced, incs_of, changed_devices, changes_pool, changes_temp, is_touched, may_lie_on, may_move, moves_all, turned_devices, changes_no_pool, changes_nothing, changes_placements, moves_none, tells_nothing, turns_none}
+use Rattle.pgp_log.proofs.Common.{◌≡◌, ℕ, List, [], ◌++◌, Bool, true, false, not, ◌||◌, map, length, refl, sym, ap, ◌∙◌, list_any, ◌==◌, not-false, not-true, or_parts, true_from_ne_false, true≢false, list_any-append, and3_parts, Entry, DeviceEpoch, Incremental, PgId, may_place_elsewhere, untouched-unmoved, unplaced, incs_of, changed_devices, changes_pool, changes_temp, is_touched, may_lie_on, may_move, moves_all, turned_devices, changes_no_pool, changes_nothing, changes_placements, moves_none, tells_nothing, turns_none}
 use Rattle.pgp_ids.specs.declared.entry.Entry.TheVariants as entry
 use Rattle.pgp_group.proofs.Lists.{any-mapped}
+use Rattle.pgp_lists.proofs.Lists.{empty-list}
 
 -- one that turns a device on which the group may lie touches the group
 pub lies-touches : (log : List Entry) (inc : Incremental) (pg : PgId) → list_any (may_lie_on (incs_of log) pg) (turned_devices inc) ≡ true → is_touched log (entry.Inc inc) pg ≡ true
@@ -11,10 +12,6 @@ lies-touches log inc pg lies = true_from_ne_false (is_touched log (entry.Inc inc
     true≢false (sym lies ∙ parts.1))
 
 -- ---- an incremental that changes the epoch alone
-
-empty-list : {X : Type 0} (xs : List X) → (length xs == 0) ≡ true → xs ≡ []
-empty-list [] none = refl
-empty-list (x ∷ xs) none = grind (arith, nat_tests)
 
 -- an incremental that makes no pool and changes none
 pub no-pools : (inc : Incremental) → changes_no_pool inc ≡ true → (inc.pools ≡ []) × (inc.sizes ≡ []) × (inc.temp ≡ [])

@@ -29,8 +29,8 @@ abbrev pub is_accepted : List Entry → Entry → Bool
 is_accepted log entry = is_none (fits log entry)
 
 -- the entry at this place was taken by the front before it
-abbrev pub is_taken_at : List Entry → ℕ → Bool
-is_taken_at log n = taken.is_taken_at is_accepted log n
+abbrev pub is_accepted_at : List Entry → ℕ → Bool
+is_accepted_at log n = taken.is_taken_at is_accepted log n
 
 -- each entry was taken by the front before it
 abbrev pub is_legal : List Entry → Bool

@@ -3,7 +3,7 @@
 use Rattle.std.specs.Prelude.{ℕ, List, Bool, true, not, ◌&&◌, ◌||◌, nat_eq, nat_lt, Option, Some, None, if◌then◌else◌}
 use Rattle.std.specs.List.{list_any}
 use Rattle.std.specs.Option.{option_map_or}
-use Rattle.pgp_ids.specs.Pool.{is_by_place}
+use Rattle.pgp_ids.specs.Pool.{is_kind_by_place}
 use Rattle.pgp_ids.specs.Version.{is_older, is_same_version}
 use Rattle.pgp_ids.specs.declared.member.Member.{Member}
 use Rattle.pgp_ids.specs.declared.incremental.Incremental.{Incremental}
@@ -24,7 +24,7 @@ has_unknown_group incs pg = not (has_group incs pg)
 
 -- a group of the pool can have a member in this slot: one below the size in an erasure or grouped pool, else slot 0
 abbrev pub is_slot_of : ℕ → PoolSpec → Bool
-is_slot_of slot pool = if is_by_place pool.kind then nat_lt slot pool.size else nat_eq slot 0
+is_slot_of slot pool = if is_kind_by_place pool.kind then nat_lt slot pool.size else nat_eq slot 0
 
 -- the device is absent in the map, or the group can't have the slot
 abbrev pub has_unknown_member : List Incremental → PgId → Member → Bool

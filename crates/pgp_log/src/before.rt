@@ -4,7 +4,7 @@ ghost use Rattle.std.specs.Prelude.{◌≡◌, ◌++◌, List, true, false, map 
 ghost use Rattle.pgp_ids.specs.declared.incremental.Incremental.{Incremental as AnyIncremental};
 ghost use Rattle.pgp_map.specs.Held.{HasGroup};
 ghost use Rattle.pgp_map.specs.MapFault.{then_with};
-ghost use Rattle.pgp_map.specs.MapOf.{IsMapOf};
+ghost use Rattle.pgp_map.specs.MapOf.{IsMapOf, Says};
 ghost use Rattle.pgp_sets.specs.Sets.{may_place_elsewhere, moves, switches_any, weighed};
 ghost use Rattle.pgp_group.specs.GroupHistory.{primary_facts};
 ghost use Rattle.pgp_log.specs.MapBefore.{IsMapBefore, makes_heavier, with_facts};
@@ -40,7 +40,7 @@ const MOST_TESTED: usize = 16;
 impl MapBefore {
     /// What the map says, which is to take the incremental next.
     pub fn of(alloc: Global, map: &OsdMap, inc: &Incremental) -> Result<Self, AllocError>
-        ensures { IfOk result (λ before. (incs : List AnyIncremental) → IsMapOf incs map.now → IsMapBefore incs inc.now before) }
+        ensures { IfOk result (λ before. Says map.now (λ incs. IsMapBefore incs inc.now before)) }
     {
         let mut devices = Vec::new(alloc);
         note_booted(&mut devices, map, inc.up.as_slice())?;
@@ -70,15 +70,14 @@ impl MapBefore {
     /// [`MOST_TESTED`] weights it isn't looked at: a placement is cheaper.
     fn may_switch(&self, after: &OsdMap, pg: &PgId, raw: &[Place]) -> bool
         requires { HasGroup after.now pg.now }
-        ensures { result ≡ false → (incs : List AnyIncremental) → IsMapOf incs after.now
-            → switches_any incs pg.now raw.now self.now.weights.items ≡ false }
+        ensures { result ≡ false → Says after.now (λ incs. switches_any incs pg.now raw.now self.now.weights.items ≡ false) }
     {
         self.weights.len() > MOST_TESTED || switches_any(after, pg, raw, self.weights.as_slice())
     }
 
     /// Whether one of the devices that the incremental weighs gets heavier. `after` is the map with the incremental.
     pub fn makes_heavier(&self, after: &OsdMap) -> bool
-        ensures { (incs : List AnyIncremental) → IsMapOf incs after.now → result ≡ makes_heavier incs self.now.weights.items }
+        ensures { Says after.now (λ incs. result ≡ makes_heavier incs self.now.weights.items) }
     {
         for old in self.weights.as_slice() {
             if after.weight(old.osd) > old.weight {
@@ -111,7 +110,7 @@ fn weights_before(
     map: &OsdMap,
     all: &[DeviceWeight],
 ) -> Result<Vec<DeviceWeight>, AllocError>
-    ensures { IfOk result (λ weights. (incs : List AnyIncremental) → IsMapOf incs map.now → weights.items ≡ each (weighed incs) all.now) }
+    ensures { IfOk result (λ weights. Says map.now (λ incs. weights.items ≡ each (weighed incs) all.now)) }
 {
     let mut weights = Vec::new(alloc);
     for given in all {
@@ -129,8 +128,7 @@ fn note_booted(
     map: &OsdMap,
     osds: &[OsdId],
 ) -> Result<(), AllocError>
-    ensures { OnOk result ((incs : List AnyIncremental) → IsMapOf incs map.now
-        → devices.new.items ≡ devices.old.items ++ each (with_facts incs) osds.now) }
+    ensures { OnOk result (Says map.now (λ incs. devices.new.items ≡ devices.old.items ++ each (with_facts incs) osds.now)) }
 {
     for osd in osds {
         devices.push(device_facts(map, *osd))?;
@@ -144,8 +142,7 @@ fn note_dated(
     map: &OsdMap,
     all: &[DeviceEpoch],
 ) -> Result<(), AllocError>
-    ensures { OnOk result ((incs : List AnyIncremental) → IsMapOf incs map.now
-        → devices.new.items ≡ devices.old.items ++ each (with_facts incs) (each (λ told. told.osd) all.now)) }
+    ensures { OnOk result (Says map.now (λ incs. devices.new.items ≡ devices.old.items ++ each (with_facts incs) (each (λ told. told.osd) all.now))) }
 {
     for told in all {
         devices.push(device_facts(map, told.osd))?;
@@ -154,7 +151,7 @@ fn note_dated(
 }
 
 fn device_facts(map: &OsdMap, osd: OsdId) -> DeviceFacts
-    ensures { (incs : List AnyIncremental) → IsMapOf incs map.now → result ≡ with_facts incs osd }
+    ensures { Says map.now (λ incs. result ≡ with_facts incs osd) }
 {
     DeviceFacts {
         osd,

@@ -2,10 +2,9 @@
 
 ghost use Rattle.std.specs.Prelude.{◌≡◌, ◌≢◌, ◌≤◌, ◌+◌, List, ◌∷◌, ◌++◌, [], length, true, false, is_some, None, Some, Err, IsOk, OnOk, OnErr, IfErr, IfSome, IfNone};
 ghost use Rattle.pgp_ids.specs.declared.entry.Entry.{Entry as AnyEntry};
-ghost use Rattle.pgp_ids.specs.declared.incremental.Incremental.{Incremental as AnyIncremental};
 ghost use Rattle.pgp_ids.specs.declared.refusal.Refusal.TheVariants.{Memory};
 ghost use Rattle.pgp_map.specs.MapFault.{given_fault};
-ghost use Rattle.pgp_map.specs.MapOf.{IsMapOf};
+ghost use Rattle.pgp_map.specs.MapOf.{IsMapOf, Says};
 ghost use Rattle.pgp_group.specs.Entries.{inc_of, incs_of};
 ghost use Rattle.pgp_log.specs.Fits.{is_closed, entry_fault, fits, longest_log};
 ghost use Rattle.pgp_log.specs.Judge.{IsJudgeOf, OfItsLog, CanTake, MapMayLack};
@@ -135,7 +134,7 @@ fn extend_map(map: &mut OsdMap, entry: &Entry) -> Result<(), AllocError>
     requires { IfSome (inc_of entry.now) (λ inc. given_fault inc.crush ≡ None) }
     ensures ok { OnOk result ((log : List AnyEntry) → IsMapOf (incs_of log) map.old → entry_fault log entry.now ≡ None
         → IsMapOf (incs_of (log ++ entry.now ∷ [])) map.new) }
-    ensures err { OnErr result ((incs : List AnyIncremental) → IsMapOf incs map.old → IsMapOf incs map.new) }
+    ensures err { OnErr result (Says map.old (λ incs. IsMapOf incs map.new)) }
     ensures wants { OnErr result (is_some (inc_of entry.now) ≡ true) }
 {
     match inc_of(entry) {

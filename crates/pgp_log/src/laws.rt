@@ -20,7 +20,7 @@ ghost use Rattle.pgp_group.specs.Touched.{is_touched, view_at};
 ghost use Rattle.pgp_group.specs.View.{scratch};
 ghost use Rattle.pgp_group.specs.Examples.{at, in_slot, copy, copy_up_to, shard, known_up, maps, on_three, two_shards_down, entries_of_first, modify, until_serving, serving_again, others_serve};
 ghost use Rattle.pgp_log.specs.Fits.{fits, entry_fault, is_close, is_closed};
-ghost use Rattle.pgp_log.specs.Log.{epoch_of, is_taken_at, is_legal, EndsWithClose};
+ghost use Rattle.pgp_log.specs.Log.{epoch_of, is_accepted_at, is_legal, EndsWithClose};
 ghost use Rattle.pgp_log.specs.Locate.{group_of_object};
 
 use pgp_group::laws::touched as group_laws;
@@ -43,7 +43,7 @@ pub fn refusals_in_order()
 /// Whether an entry was taken depends on nothing after it.
 pub fn later_entries_play_no_part()
     ensures { (log later : List Entry) (n : ℕ) → n < length log
-        → is_taken_at (log ++ later) n ≡ is_taken_at log n }
+        → is_accepted_at (log ++ later) n ≡ is_accepted_at log n }
 {}
 
 /// Fronts of a legal log are legal, and a legal log with one more entry is legal exactly where that one fits.

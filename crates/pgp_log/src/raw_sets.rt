@@ -6,7 +6,7 @@ ghost use Rattle.pgp_ids.specs.declared.entry.Entry.{Entry as AnyEntry};
 ghost use Rattle.pgp_ids.specs.declared.incremental.Incremental.{Incremental as AnyIncremental};
 ghost use Rattle.pgp_group.specs.Entries.{inc_of, incs_of};
 ghost use Rattle.pgp_map.specs.Held.{HasGroup};
-ghost use Rattle.pgp_map.specs.MapOf.{IsMapOf};
+ghost use Rattle.pgp_map.specs.MapOf.{Says};
 ghost use Rattle.pgp_sets.specs.Sets.{membership};
 ghost use Rattle.pgp_log.specs.Fits.{fits};
 ghost use Rattle.pgp_log.specs.Locate.{place_of_object, IsCheckedMap};
@@ -68,9 +68,8 @@ impl RawSets {
     /// is memory for it.
     pub fn locate(&mut self, map: &OsdMap, id: PoolId, name: &ObjectName) -> Option<ObjectPlace>
         requires { IsCheckedMap map.now }
-        ensures place { (incs : List AnyIncremental) → IsMapOf incs map.now → AreRawSets incs self.old
-            → result ≡ place_of_object incs id name.now }
-        ensures kept { (incs : List AnyIncremental) → IsMapOf incs map.now → AreRawSets incs self.old → AreRawSets incs self.new }
+        ensures place { Says map.now (λ incs. AreRawSets incs self.old → result ≡ place_of_object incs id name.now) }
+        ensures kept { Says map.now (λ incs. AreRawSets incs self.old → AreRawSets incs self.new) }
     {
         let pg = group_of_object(map, id, name)?;
         let members = self.members(map, &pg);
@@ -80,9 +79,8 @@ impl RawSets {
     /// Where the group lies by the map. Its raw set is kept, where there is memory for it.
     pub fn members(&mut self, map: &OsdMap, pg: &PgId) -> Membership
         requires { HasGroup map.now pg.now }
-        ensures members { (incs : List AnyIncremental) → IsMapOf incs map.now → AreRawSets incs self.old
-            → membership incs pg.now ≡ Some result }
-        ensures kept { (incs : List AnyIncremental) → IsMapOf incs map.now → AreRawSets incs self.old → AreRawSets incs self.new }
+        ensures members { Says map.now (λ incs. AreRawSets incs self.old → membership incs pg.now ≡ Some result) }
+        ensures kept { Says map.now (λ incs. AreRawSets incs self.old → AreRawSets incs self.new) }
     {
         if let Some(known) = self.known.get(pg) {
             return filter(map, pg, known);

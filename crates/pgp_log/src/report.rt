@@ -1,8 +1,7 @@
 //! Which reports of members the log refuses, by its map.
-ghost use Rattle.std.specs.Prelude.{◌≡◌, ◌≢◌, ◌||◌, List, Some};
+ghost use Rattle.std.specs.Prelude.{◌≡◌, ◌≢◌, ◌||◌, Some};
 ghost use Rattle.std.specs.List.{list_any};
-ghost use Rattle.pgp_ids.specs.declared.incremental.Incremental.{Incremental as AnyIncremental};
-ghost use Rattle.pgp_map.specs.MapOf.{IsMapOf};
+ghost use Rattle.pgp_map.specs.MapOf.{Says};
 ghost use Rattle.pgp_log.specs.ReportFault.{is_slot_of, has_unknown_member, is_half, is_bad_version, are_bad_ends, is_zero, has_bad_info, has_bad_entries, report_fault, info_fault, entries_fault};
 
 use pgp_ids::{Epoch, Info, LogEntry, Member, PgId, PoolSpec, Refusal, Report, Version};
@@ -10,7 +9,7 @@ use pgp_map::OsdMap;
 
 /// Why the log refuses an info, if it does.
 pub fn info_fault(map: &OsdMap, info: &Info) -> Option<Refusal>
-    ensures fault { (incs : List AnyIncremental) → IsMapOf incs map.now → result ≡ info_fault incs info.now }
+    ensures fault { Says map.now (λ incs. result ≡ info_fault incs info.now) }
     ensures memory { result ≢ Some Refusal.Memory }
 {
     report_fault(map, &info.pg, &info.member, info.stamp, has_bad_info(info))
@@ -18,7 +17,7 @@ pub fn info_fault(map: &OsdMap, info: &Info) -> Option<Refusal>
 
 /// Why the log refuses a report of log entries, if it does.
 pub fn entries_fault(map: &OsdMap, report: &Report) -> Option<Refusal>
-    ensures fault { (incs : List AnyIncremental) → IsMapOf incs map.now → result ≡ entries_fault incs report.now }
+    ensures fault { Says map.now (λ incs. result ≡ entries_fault incs report.now) }
     ensures memory { result ≢ Some Refusal.Memory }
 {
     let bad = has_bad_entries(report.stamp, report.log.as_slice());
@@ -33,7 +32,7 @@ fn report_fault(
     stamp: Epoch,
     bad: bool,
 ) -> Option<Refusal>
-    ensures fault { (incs : List AnyIncremental) → IsMapOf incs map.now → result ≡ report_fault incs pg.now member.now stamp bad }
+    ensures fault { Says map.now (λ incs. result ≡ report_fault incs pg.now member.now stamp bad) }
     ensures memory { result ≢ Some Refusal.Memory }
 {
     if !map.has_group(pg) {
@@ -51,7 +50,7 @@ fn report_fault(
 
 /// The device is absent, or the group can't have the slot.
 fn has_unknown_member(map: &OsdMap, pg: &PgId, member: &Member) -> bool
-    ensures { (incs : List AnyIncremental) → IsMapOf incs map.now → result ≡ has_unknown_member incs pg.now member.now }
+    ensures { Says map.now (λ incs. result ≡ has_unknown_member incs pg.now member.now) }
 {
     let has_slot = match map.pool(pg.pool) {
         Some(pool) => is_slot_of(member.slot, pool),

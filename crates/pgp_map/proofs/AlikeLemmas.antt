@@ -18,7 +18,7 @@ use Rattle.std.specs.List.{range_with_len}
 use Rattle.std.specs.Option.{option_eq, option_map_or}
 use Rattle.std.specs.Ordering.{int_eq}
 use Rattle.pgp_crush.specs.Bucket.{Bucket, bucket_of}
-use Rattle.pgp_ids.specs.Pool.{is_by_place}
+use Rattle.pgp_ids.specs.Pool.{is_kind_by_place}
 use Rattle.pgp_ids.specs.declared.bucket.BucketAlg.{BucketAlg}
 use Rattle.pgp_ids.specs.declared.bucket.BucketAlg.TheVariants.{Uniform, List as ListAlg, Straw2}
 use Rattle.pgp_ids.specs.declared.bucket.BucketSpec.{BucketSpec}
@@ -104,12 +104,12 @@ parts_of (Grouped parts) = parts
 kind_Decides : (a b : PoolKind) → Decides (is_same_kind a b) (a ≡ b)
 unfolding is_erasure k_of parts_of
 kind_Decides Replicated Replicated = (λ passed. refl, λ equal. refl)
-kind_Decides Replicated (Erasure l) = (λ passed. absurd (true≢false (sym passed)), λ equal. absurd (true≢false (sym (ap is_by_place equal))))
-kind_Decides Replicated (Grouped parts) = (λ passed. absurd (true≢false (sym passed)), λ equal. absurd (true≢false (sym (ap is_by_place equal))))
-kind_Decides (Erasure k) Replicated = (λ passed. absurd (true≢false (sym passed)), λ equal. absurd (true≢false (ap is_by_place equal)))
+kind_Decides Replicated (Erasure l) = (λ passed. absurd (true≢false (sym passed)), λ equal. absurd (true≢false (sym (ap is_kind_by_place equal))))
+kind_Decides Replicated (Grouped parts) = (λ passed. absurd (true≢false (sym passed)), λ equal. absurd (true≢false (sym (ap is_kind_by_place equal))))
+kind_Decides (Erasure k) Replicated = (λ passed. absurd (true≢false (sym passed)), λ equal. absurd (true≢false (ap is_kind_by_place equal)))
 kind_Decides (Erasure k) (Erasure l) = (λ passed. ap Erasure ((unsigned_Decides k l).0 passed), λ equal. (unsigned_Decides k l).1 (ap k_of equal))
 kind_Decides (Erasure k) (Grouped parts) = (λ passed. absurd (true≢false (sym passed)), λ equal. absurd (true≢false (ap is_erasure equal)))
-kind_Decides (Grouped parts) Replicated = (λ passed. absurd (true≢false (sym passed)), λ equal. absurd (true≢false (ap is_by_place equal)))
+kind_Decides (Grouped parts) Replicated = (λ passed. absurd (true≢false (sym passed)), λ equal. absurd (true≢false (ap is_kind_by_place equal)))
 kind_Decides (Grouped parts) (Erasure l) = (λ passed. absurd (true≢false (sym passed)), λ equal. absurd (true≢false (sym (ap is_erasure equal))))
 kind_Decides (Grouped parts) (Grouped others) =
     let same = pointwise_decides (options_Decide part_Decides) parts others in

@@ -15,7 +15,7 @@ use Rattle.pgp_map.specs.declared.fault.MapFault.{MapFault}
 use Rattle.pgp_map.specs.declared.fault.MapFault.TheVariants.{EpochGap, Memory, Twice}
 use Rattle.pgp_map.specs.Devices.{boots, takes_down, destroys, is_up}
 use Rattle.pgp_map.specs.Findings.{first_of, AreFindings}
-use Rattle.pgp_map.specs.MapFault.{map_fault, given_fault, has_epoch_gap, has_twice, devices_that_must_exist, then_with}
+use Rattle.pgp_map.specs.MapFault.{map_fault, given_fault, has_epoch_gap, names_twice, devices_that_must_exist, then_with}
 use Rattle.pgp_map.specs.Memory.{is_filled}
 use Rattle.pgp_map.proofs.DeviceLemmas.{is_up-push}
 
@@ -41,12 +41,12 @@ unfolding map_fault
 gap-found incs inc gap = rw gap refl
 
 -- one that changes this map is refused for what is in it twice
-pub twice-found : (incs : List Incremental) (inc : Incremental) → has_epoch_gap incs inc ≡ false → has_twice inc ≡ true → map_fault incs inc ≡ Some Twice
+pub twice-found : (incs : List Incremental) (inc : Incremental) → has_epoch_gap incs inc ≡ false → names_twice inc ≡ true → map_fault incs inc ≡ Some Twice
 unfolding map_fault
 twice-found incs inc next twice = rw (next, twice) refl
 
 -- the first of the findings is the first fault of an incremental that changes this map in which nothing is twice, or the tree's where there is none
-pub fault-found : (incs : List Incremental) (inc : Incremental) (f : Findings) (found : Option MapFault) → has_epoch_gap incs inc ≡ false → has_twice inc ≡ false
+pub fault-found : (incs : List Incremental) (inc : Incremental) (f : Findings) (found : Option MapFault) → has_epoch_gap incs inc ≡ false → names_twice inc ≡ false
     → AreFindings incs inc f → first_of f ≡ found → map_fault incs inc ≡ option_or found (given_fault inc.crush)
 unfolding map_fault
 fault-found incs inc f found next once are is = grind arith

@@ -6,7 +6,7 @@ use Rattle.std.specs.Prelude.{nat_lt}
 use Rattle.std.proofs.lemmas.Bool.{eqb-true, ltb-false, and_parts}
 use Rattle.std.proofs.lemmas.Option.{same_Some}
 use Rattle.pgp_ids.specs.Parts.{are_parts}
-use Rattle.pgp_ids.specs.Pool.{is_by_place}
+use Rattle.pgp_ids.specs.Pool.{is_kind_by_place}
 use Rattle.pgp_ids.specs.declared.incremental.DeviceEpoch.{DeviceEpoch}
 use Rattle.pgp_ids.specs.declared.incremental.Incremental.{Incremental}
 use Rattle.pgp_ids.specs.declared.pg_id.PgId.{PgId}
@@ -21,7 +21,7 @@ use Rattle.pgp_map.specs.Devices.{up_thru}
 use Rattle.pgp_map.specs.Held.{is_group_of, HasGroup}
 use Rattle.pgp_map.specs.HeldLaws.{held_pool-is}
 use Rattle.pgp_lists.specs.Last.{last_where}
-use Rattle.pgp_map.specs.MapFault.{map_fault, then_with, is_within, are_sizes, is_kind, is_pool}
+use Rattle.pgp_map.specs.MapFault.{map_fault, then_with, is_from_one_to, are_sizes, is_kind, is_pool}
 use Rattle.pgp_map.specs.MapOf.{IsMapOf}
 use Rattle.pgp_map.specs.Pools.{pool, with_sizes, has_group}
 use Rattle.pgp_lists.proofs.Last.{last_where-some}
@@ -51,7 +51,7 @@ record InRange (incs : List Incremental) : Type 0 where
 
 -- sizes that a pool can change to leave it in range
 resized : (made : PoolSpec) (sizes : PoolSizes) → is_pool made ≡ true → are_sizes sizes.size sizes.min_size ≡ true
-    → (is_by_place made.kind && not (nat_eq made.size sizes.size)) ≡ false → is_pool (with_sizes (Some sizes) made) ≡ true
+    → (is_kind_by_place made.kind && not (nat_eq made.size sizes.size)) ≡ false → is_pool (with_sizes (Some sizes) made) ≡ true
 resized made sizes fits good kept = grind (arith, eqb-true)
 
 more-in_range : (incs : List Incremental) (inc : Incremental) → InRange incs → map_fault incs inc ≡ None → InRange (then_with incs inc)
@@ -121,13 +121,13 @@ record IsSized (kind : PoolKind) (size : ℕ) (found : Option PoolSpec) : Type 0
   size_is : option_map (λ made. made.size) found ≡ Some size
 
 -- what a pool can be given in which each member has a place of its own is its own size
-keeps_size : (kind : PoolKind) (size : ℕ) (old : PoolSpec) (sizes : PoolSizes) → is_by_place kind ≡ true → IsSized kind size (Some old)
-    → (is_by_place old.kind && not (nat_eq old.size sizes.size)) ≡ false → IsSized kind size (Some (with_sizes (Some sizes) old))
+keeps_size : (kind : PoolKind) (size : ℕ) (old : PoolSpec) (sizes : PoolSizes) → is_kind_by_place kind ≡ true → IsSized kind size (Some old)
+    → (is_kind_by_place old.kind && not (nat_eq old.size sizes.size)) ≡ false → IsSized kind size (Some (with_sizes (Some sizes) old))
 keeps_size kind size old sizes placed is kept =
-    let by_place : is_by_place old.kind ≡ true = ap is_by_place (same_Some old.kind kind is.kind_is) ∙ placed in
+    let by_place : is_kind_by_place old.kind ≡ true = ap is_kind_by_place (same_Some old.kind kind is.kind_is) ∙ placed in
     record { kind_is = is.kind_is; size_is = grind (arith, eqb-true) }
 
-sized-more : (kind : PoolKind) (size id : ℕ) → is_by_place kind ≡ true → (incs : List Incremental) (inc : Incremental) → InRange incs → map_fault incs inc ≡ None
+sized-more : (kind : PoolKind) (size id : ℕ) → is_kind_by_place kind ≡ true → (incs : List Incremental) (inc : Incremental) → InRange incs → map_fault incs inc ≡ None
     → IsSized kind size (pool incs id) → IsSized kind size (pool (then_with incs inc) id)
 sized-more kind size id placed incs inc ranges none before =
     pool-cases (IsSized kind size) incs inc id (no_fault incs inc none) (ranges.unsized id) record {
@@ -137,7 +137,7 @@ sized-more kind size id placed incs inc ranges none before =
     }
 
 -- a pool in which each member has a place of its own keeps its size
-pub sizes-stay : (incs later : List Incremental) (id : ℕ) (made : PoolSpec) → are_checked (incs ++ later) ≡ true → pool incs id ≡ Some made → is_by_place made.kind ≡ true
+pub sizes-stay : (incs later : List Incremental) (id : ℕ) (made : PoolSpec) → are_checked (incs ++ later) ≡ true → pool incs id ≡ Some made → is_kind_by_place made.kind ≡ true
     → option_map (λ now. now.size) (pool (incs ++ later) id) ≡ Some made.size
 sizes-stay incs later id made checked there placed =
     (taken-along is_faultless (λ now. IsSized made.kind made.size (pool now id))
@@ -146,15 +146,15 @@ sizes-stay incs later id made checked there placed =
 
 pub shards-stay : (incs later : List Incremental) (id k : ℕ) (made : PoolSpec) → are_checked (incs ++ later) ≡ true → pool incs id ≡ Some made → made.kind ≡ Erasure k
     → option_map (λ now. now.size) (pool (incs ++ later) id) ≡ Some made.size
-shards-stay incs later id k made checked there kind = sizes-stay incs later id made checked there (ap is_by_place kind)
+shards-stay incs later id k made checked there kind = sizes-stay incs later id made checked there (ap is_kind_by_place kind)
 
 -- a grouped pool's size allows its parts for ever
 pub parts-stay : (incs later : List Incremental) (id : ℕ) (groups : List (Option Part)) (made : PoolSpec) → are_checked (incs ++ later) ≡ true → pool incs id ≡ Some made
     → made.kind ≡ Grouped groups → option_map_or (λ now. are_parts now.size groups) (pool (incs ++ later) id) false ≡ true
 parts-stay incs later id groups made checked there kind =
     let ranges = pools-in_range incs id made (front-checked incs later checked) there in
-    let fits : is_kind made.kind made.size ≡ true = (and_parts (is_within 1024 made.pg_num && are_sizes made.size made.min_size) (is_kind made.kind made.size) ranges).1 in
-    by_size (pool (incs ++ later) id) (sizes-stay incs later id made checked there (ap is_by_place kind)) (ap (λ kind. is_kind kind made.size) (sym kind) ∙ fits)
+    let fits : is_kind made.kind made.size ≡ true = (and_parts (is_from_one_to 1024 made.pg_num && are_sizes made.size made.min_size) (is_kind made.kind made.size) ranges).1 in
+    by_size (pool (incs ++ later) id) (sizes-stay incs later id made checked there (ap is_kind_by_place kind)) (ap (λ kind. is_kind kind made.size) (sym kind) ∙ fits)
   where
     by_size : (found : Option PoolSpec) → option_map (λ now. now.size) found ≡ Some made.size → are_parts made.size groups ≡ true
         → option_map_or (λ now. are_parts now.size groups) found false ≡ true

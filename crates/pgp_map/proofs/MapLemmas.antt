@@ -8,7 +8,7 @@ use Rattle.std.proofs.lemmas.List.{take_all}
 use Rattle.std.proofs.lemmas.List.Elements.{filter_map-append}
 use Rattle.std.proofs.lemmas.List.Sums.{sum_by-append}
 use Rattle.pgp_crush.specs.Bucket.{bucket_of}
-use Rattle.pgp_ids.specs.Pool.{is_by_place}
+use Rattle.pgp_ids.specs.Pool.{is_kind_by_place}
 use Rattle.pgp_ids.specs.declared.incremental.DeviceWeight.{DeviceWeight}
 use Rattle.pgp_ids.specs.declared.incremental.Incremental.{Incremental}
 use Rattle.pgp_ids.specs.declared.incremental.TempList.{TempList}
@@ -75,12 +75,12 @@ pool-push incs inc id known unsized =
 pub record HoldsOfNew (P : Option PoolSpec → Type 0) (given : Option PoolSizes) (old : Option PoolSpec) : Type 0 where
   pub made : (made : PoolSpec) → old ≡ None → is_pool made ≡ true → P (Some made)
   pub sized : (before : PoolSpec) (sizes : PoolSizes) → old ≡ Some before → given ≡ Some sizes → are_sizes sizes.size sizes.min_size ≡ true
-      → (is_by_place before.kind && not (nat_eq before.size sizes.size)) ≡ false → P (Some (with_sizes (Some sizes) before))
+      → (is_kind_by_place before.kind && not (nat_eq before.size sizes.size)) ≡ false → P (Some (with_sizes (Some sizes) before))
   pub stays : given ≡ None → P old
 
 -- what isn't fine of sizes for the pool that is there
 abbrev are_bad_for : PoolSizes → Option PoolSpec → Bool
-are_bad_for sizes old = not (are_sizes sizes.size sizes.min_size) || option_map_or (λ made. is_by_place made.kind && not (nat_eq made.size sizes.size)) old true
+are_bad_for sizes old = not (are_sizes sizes.size sizes.min_size) || option_map_or (λ made. is_kind_by_place made.kind && not (nat_eq made.size sizes.size)) old true
 
 -- what holds in each of these ways holds of the new pool
 by_entries : (P : Option PoolSpec → Type 0) (z : Option PoolSizes) (m old : Option PoolSpec)
@@ -90,7 +90,7 @@ by_entries P None None None fits new fine holds = holds.stays refl
 by_entries P None None (Some p) fits new fine holds = holds.stays refl
 by_entries P None (Some m) None fits new fine holds = holds.made m refl (fits m refl)
 by_entries P (Some s) None (Some p) fits new fine holds =
-    let both = or_parts (not (are_sizes s.size s.min_size)) (is_by_place p.kind && not (nat_eq p.size s.size)) (fine s refl) in
+    let both = or_parts (not (are_sizes s.size s.min_size)) (is_kind_by_place p.kind && not (nat_eq p.size s.size)) (fine s refl) in
     holds.sized p s refl refl (not-false (are_sizes s.size s.min_size) both.0) both.1
 by_entries P (Some s) m None fits new fine holds = let both = or_parts (not (are_sizes s.size s.min_size)) true (fine s refl) in absurd (cc both.1)
 by_entries P z (Some m) (Some p) fits new fine holds = let no : true ≡ false = new m refl in absurd (cc)

@@ -1,6 +1,7 @@
 -- Small map incrementals.
 use Rattle.std.specs.Prelude.{ℕ, ◌-◌, List, [], ◌∷◌, ◌++◌, Option, Some, None, map, length, replicate}
 use Rattle.std.specs.List.{range_with_len}
+use Rattle.pgp_ids.specs.Incremental.{no_change}
 use Rattle.pgp_ids.specs.Parts.{set_of, has_twice}
 use Rattle.pgp_ids.specs.declared.incremental.DeviceEpoch.{DeviceEpoch}
 use Rattle.pgp_ids.specs.declared.incremental.DeviceWeight.{DeviceWeight}
@@ -13,21 +14,7 @@ use Rattle.pgp_ids.specs.declared.pool.PoolSpec.{PoolSpec}
 
 -- an incremental that changes nothing but the epoch
 abbrev pub empty_step : ℕ → Incremental
-empty_step epoch =
-    record {
-      after = epoch - 1;
-      epoch = epoch;
-      up = [];
-      down = [];
-      gone = [];
-      weight = [];
-      up_thru = [];
-      lost = [];
-      pools = [];
-      sizes = [];
-      temp = [];
-      crush = None;
-    }
+empty_step epoch = no_change (epoch - 1) epoch
 
 -- an incremental that boots these devices
 abbrev pub boot : ℕ → List ℕ → Incremental
@@ -37,8 +24,8 @@ boot epoch osds = record (empty_step epoch) { up = osds }
 abbrev pub weighs : ℕ → ℕ → List DeviceWeight
 weighs osd weight = record { osd = osd; weight = weight } ∷ []
 
-abbrev pub with_epoch : ℕ → ℕ → List DeviceEpoch
-with_epoch osd epoch = record { osd = osd; epoch = epoch } ∷ []
+abbrev pub dated : ℕ → ℕ → List DeviceEpoch
+dated osd epoch = record { osd = osd; epoch = epoch } ∷ []
 
 -- device 0 is up since epoch 1
 abbrev pub one_up : List Incremental
@@ -46,15 +33,15 @@ one_up = boot 1 (0 ∷ []) ∷ []
 
 -- devices 0 and 1 are there, 1 is down and was up through epoch 2
 abbrev pub one_up_one_down : List Incremental
-one_up_one_down = boot 1 (0 ∷ 1 ∷ []) ∷ record (empty_step 2) { down = 1 ∷ []; up_thru = with_epoch 1 2 } ∷ []
+one_up_one_down = boot 1 (0 ∷ 1 ∷ []) ∷ record (empty_step 2) { down = 1 ∷ []; up_thru = dated 1 2 } ∷ []
 
 -- a replicated pool of one group
-abbrev pub copies : ℕ → ℕ → PoolSpec
-copies id size = record { id = id; pg_num = 1; kind = Replicated; size = size; min_size = 1; leaf = 0 }
+abbrev pub pool_of_copies : ℕ → ℕ → PoolSpec
+pool_of_copies id size = record { id = id; pg_num = 1; kind = Replicated; size = size; min_size = 1; leaf = 0 }
 
 -- an erasure pool of one group and size 3, of which two shards give an object back
-abbrev pub shards : ℕ → PoolSpec
-shards id = record { id = id; pg_num = 1; kind = Erasure 2; size = 3; min_size = 2; leaf = 0 }
+abbrev pub pool_of_shards : ℕ → PoolSpec
+pool_of_shards id = record { id = id; pg_num = 1; kind = Erasure 2; size = 3; min_size = 2; leaf = 0 }
 
 -- an erasure pool of one group and size 3, of which this many shards give an object back
 abbrev pub shards_of : ℕ → PoolSpec
@@ -70,8 +57,8 @@ grouped id parts =
     record { id = id; pg_num = 1; kind = Grouped (parts ++ replicate (16 - length parts) None); size = 3; min_size = 2; leaf = 0 }
 
 -- the first incremental, which makes this pool and nothing else
-abbrev pub makes : PoolSpec → Incremental
-makes pool = record (empty_step 1) { pools = pool ∷ [] }
+abbrev pub pool_step : PoolSpec → Incremental
+pool_step pool = record (empty_step 1) { pools = pool ∷ [] }
 
 -- this many pools of 1,024 groups and one copy
 abbrev pub large_pools : ℕ → List PoolSpec
@@ -87,15 +74,15 @@ placed pool osds = record { pg = record { pool = pool; pg = 0 }; osds = osds } �
 
 -- devices 0, 1 and 2 boot, and pool 1 of three copies and pool 2 of three shards are made
 abbrev pub two_pools : List Incremental
-two_pools = record (boot 1 (0 ∷ 1 ∷ 2 ∷ [])) { pools = copies 1 3 ∷ shards 2 ∷ [] } ∷ []
+two_pools = record (boot 1 (0 ∷ 1 ∷ 2 ∷ [])) { pools = pool_of_copies 1 3 ∷ pool_of_shards 2 ∷ [] } ∷ []
 
 -- device 0 boots and gets a weight; it is said to be up through epoch 1 and goes down; it is given up for lost; it is
 -- destroyed; it boots again
 abbrev pub made_again : List Incremental
 made_again =
     record (boot 1 (0 ∷ [])) { weight = weighs 0 5 }
-    ∷ record (empty_step 2) { down = 0 ∷ []; up_thru = with_epoch 0 1 }
-    ∷ record (empty_step 3) { lost = with_epoch 0 3 }
+    ∷ record (empty_step 2) { down = 0 ∷ []; up_thru = dated 0 1 }
+    ∷ record (empty_step 3) { lost = dated 0 3 }
     ∷ record (empty_step 4) { gone = 0 ∷ [] }
     ∷ boot 5 (0 ∷ [])
     ∷ []

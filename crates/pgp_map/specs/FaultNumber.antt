@@ -1,6 +1,6 @@
 -- The refusals of entries that the faults of a map incremental are, and their numbers.
 use Rattle.std.specs.Prelude.{ℕ, Option, Some, None}
-use Rattle.pgp_crush.specs.TreeFault.{fault_number as tree_fault_number}
+use Rattle.pgp_crush.specs.TreeFault.{tree_fault_number}
 use Rattle.pgp_ids.specs.Refusal.{refusal_number}
 use Rattle.pgp_ids.specs.declared.refusal.Refusal.{Refusal}
 use Rattle.pgp_ids.specs.declared.refusal.Refusal.TheVariants as refusal
@@ -29,5 +29,5 @@ refusal_of (TreeFault fault) = tree_refusal (tree_fault_number fault)
 refusal_of Memory = refusal.Memory
 
 -- the number of a fault in answers: that of its refusal
-abbrev pub fault_number : MapFault → ℕ
-fault_number fault = refusal_number (refusal_of fault)
+abbrev pub map_fault_number : MapFault → ℕ
+map_fault_number fault = refusal_number (refusal_of fault)

@@ -6,7 +6,7 @@ use Rattle.std.specs.Option.{option_map_or}
 use Rattle.pgp_crush.specs.Bucket.{bucket_of}
 use Rattle.pgp_crush.specs.TreeFault.{tree_fault}
 use Rattle.pgp_ids.specs.Parts.{are_parts}
-use Rattle.pgp_ids.specs.Pool.{is_by_place}
+use Rattle.pgp_ids.specs.Pool.{is_kind_by_place}
 use Rattle.pgp_ids.specs.declared.bucket.BucketSpec.{BucketSpec}
 use Rattle.pgp_ids.specs.declared.incremental.Incremental.{Incremental}
 use Rattle.pgp_ids.specs.declared.incremental.TempList.{TempList}
@@ -31,8 +31,8 @@ has_epoch_gap incs inc = not (nat_eq inc.after (epoch incs) && nat_lt inc.after 
 
 -- a device is twice in up, down and gone together, or in one of weight, up_thru and lost; or a pool in pools and sizes
 -- together; or a group in temp. It is so also where both say the same.
-abbrev pub has_twice : Incremental → Bool
-has_twice inc =
+abbrev pub names_twice : Incremental → Bool
+names_twice inc =
     has_repeat nat_eq (inc.up ++ inc.down ++ inc.gone)
     || has_repeat nat_eq (map (λ entry. entry.osd) inc.weight)
     || has_repeat nat_eq (map (λ entry. entry.osd) inc.up_thru)
@@ -77,29 +77,29 @@ abbrev pub has_ahead : Incremental → Bool
 has_ahead inc = list_any (λ entry. nat_lt inc.epoch entry.epoch) (inc.up_thru ++ inc.lost)
 
 -- the number is one of 1 to the last
-abbrev pub is_within : ℕ → ℕ → Bool
-is_within last number = nat_le 1 number && nat_le number last
+abbrev pub is_from_one_to : ℕ → ℕ → Bool
+is_from_one_to last number = nat_le 1 number && nat_le number last
 
 -- the size is 1 to 16, and min_size 1 to it
 abbrev pub are_sizes : ℕ → ℕ → Bool
-are_sizes size min_size = is_within 16 size && is_within size min_size
+are_sizes size min_size = is_from_one_to 16 size && is_from_one_to size min_size
 
 -- in an erasure pool k is 1 to the size, and in a grouped pool the size allows the parts
 abbrev pub is_kind : PoolKind → ℕ → Bool
 is_kind Replicated size = true
-is_kind (Erasure k) size = is_within size k
+is_kind (Erasure k) size = is_from_one_to size k
 is_kind (Grouped groups) size = are_parts size groups
 
 -- a pool's numbers are in range
 abbrev pub is_pool : PoolSpec → Bool
-is_pool made = is_within 1024 made.pg_num && are_sizes made.size made.min_size && is_kind made.kind made.size
+is_pool made = is_from_one_to 1024 made.pg_num && are_sizes made.size made.min_size && is_kind made.kind made.size
 
 -- a pool's sizes can't change to these: it isn't in the old map, or it is an erasure or grouped pool of another size, or they
 -- are out of range
 abbrev pub are_bad_sizes : List Incremental → PoolSizes → Bool
 are_bad_sizes incs sizes =
     not (are_sizes sizes.size sizes.min_size)
-    || option_map_or (λ made. is_by_place made.kind && not (nat_eq made.size sizes.size)) (pool incs sizes.pool) true
+    || option_map_or (λ made. is_kind_by_place made.kind && not (nat_eq made.size sizes.size)) (pool incs sizes.pool) true
 
 -- a pool is made of numbers out of range, or has sizes that it can't change to; or the old pools and the ones made have
 -- more than 16384 groups, where a pool that is made again counts in both
@@ -117,7 +117,7 @@ has_pool_known incs inc = list_any (λ made. is_some (pool incs made.id)) inc.po
 -- another length than its size, except the empty list
 abbrev pub has_bad_places : PoolSpec → List (Option ℕ) → Bool
 has_bad_places made osds =
-    if is_by_place made.kind then not (nat_eq (length osds) 0) && not (nat_eq (length osds) made.size) else list_any is_none osds
+    if is_kind_by_place made.kind then not (nat_eq (length osds) 0) && not (nat_eq (length osds) made.size) else list_any is_none osds
 
 -- the pool isn't there or hasn't the group, or the group's list has more than 16 places, or a device twice, or is none that
 -- the pool can have
@@ -144,7 +144,7 @@ given_fault crush = option_map TreeFault (option_and_then (λ buckets. tree_faul
 unfoldable pub map_fault : List Incremental → Incremental → Option MapFault
 map_fault incs inc =
     if has_epoch_gap incs inc then Some EpochGap
-    else (if has_twice inc then Some Twice
+    else (if names_twice inc then Some Twice
     else (if has_unknown_device incs inc then Some UnknownDevice
     else (if has_already_up incs inc then Some AlreadyUp
     else (if has_already_down incs inc then Some AlreadyDown

@@ -3,8 +3,8 @@ use Rattle.std.specs.Prelude.{ℕ, List, Bool, ◌||◌, nat_eq, slice_index_or,
 use Rattle.pgp_ids.specs.declared.incremental.DeviceWeight.{DeviceWeight}
 
 -- a table is empty, or has all devices
-abbrev pub is_whole : ℕ → Bool
-is_whole len = nat_eq len 0 || nat_eq len 4096
+abbrev pub is_full_weight : ℕ → Bool
+is_full_weight len = nat_eq len 0 || nat_eq len 4096
 
 -- the weight of the device; it is fully in where the table has none
 abbrev pub weight_in : List ℕ → ℕ → ℕ

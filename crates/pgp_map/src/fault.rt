@@ -1,7 +1,7 @@
 //! Why a map incremental isn't taken.
 
 ghost use Rattle.std.specs.Prelude.{◌≡◌};
-ghost use Rattle.pgp_map.specs.FaultNumber.{fault_number, refusal_of};
+ghost use Rattle.pgp_map.specs.FaultNumber.{map_fault_number, refusal_of};
 
 use pgp_crush::TreeFault;
 use pgp_ids::Refusal;
@@ -44,7 +44,7 @@ pub enum MapFault {
 impl MapFault {
     /// The number of the fault in answers.
     pub fn number(self) -> u8
-        ensures { result ≡ fault_number self }
+        ensures { result ≡ map_fault_number self }
     {
         Refusal::from(self).number()
     }

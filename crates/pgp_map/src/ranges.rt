@@ -4,7 +4,7 @@ ghost use Rattle.std.specs.Prelude.{◌≡◌, not, ◌||◌, ◌&&◌, true, na
 ghost use Rattle.std.specs.List.{list_any};
 ghost use Rattle.std.specs.Option.{option_map_or};
 ghost use Rattle.std.specs.HashMap as hash;
-ghost use Rattle.pgp_ids.specs.Pool.{is_by_place};
+ghost use Rattle.pgp_ids.specs.Pool.{is_kind_by_place};
 ghost use Rattle.pgp_map.specs.MapFault.{are_sizes, is_kind, is_pool};
 
 use pgp_ids::{PoolId, PoolKind, PoolSizes, PoolSpec};
@@ -46,7 +46,7 @@ fn is_pool(made: &PoolSpec) -> bool
 
 /// The sizes aren't ones to which the pool can change.
 fn are_bad_sizes(table: &HashMap<PoolId, PoolSpec>, given: &PoolSizes) -> bool
-    ensures { result ≡ (not (are_sizes given.now.size given.now.min_size) || option_map_or (λ made. is_by_place made.kind && not (nat_eq made.size given.now.size)) (hash.get nat_eq table.now given.now.pool) true) }
+    ensures { result ≡ (not (are_sizes given.now.size given.now.min_size) || option_map_or (λ made. is_kind_by_place made.kind && not (nat_eq made.size given.now.size)) (hash.get nat_eq table.now given.now.pool) true) }
 {
     if !are_sizes(given.size, given.min_size) {
         return true;
@@ -66,7 +66,7 @@ pub(crate) fn has_bad_spec(made: &[PoolSpec]) -> bool
 
 /// A pool is given sizes to which it can't change.
 pub(crate) fn has_bad_sizes(table: &HashMap<PoolId, PoolSpec>, sizes: &[PoolSizes]) -> bool
-    ensures { result ≡ list_any (λ given. not (are_sizes given.size given.min_size) || option_map_or (λ made. is_by_place made.kind && not (nat_eq made.size given.size)) (hash.get nat_eq table.now given.pool) true) sizes.now }
+    ensures { result ≡ list_any (λ given. not (are_sizes given.size given.min_size) || option_map_or (λ made. is_kind_by_place made.kind && not (nat_eq made.size given.size)) (hash.get nat_eq table.now given.pool) true) sizes.now }
 {
     sizes.iter().any(|given| are_bad_sizes(table, given))
 }

@@ -3,7 +3,7 @@
 ghost use Rattle.std.specs.Prelude.{◌≡◌, ◌++◌, ◌||◌, ◌≤◌, ℕ, map, false, true, nat_eq, IfOk, OnErr};
 ghost use Rattle.std.specs.List.{list_any};
 ghost use Rattle.pgp_lists.specs.Repeats.{has_repeat};
-ghost use Rattle.pgp_map.specs.MapFault.{has_twice};
+ghost use Rattle.pgp_map.specs.MapFault.{names_twice};
 ghost use Rattle.pgp_map.specs.Memory.{is_filled};
 ghost use Rattle.pgp_map.specs.NumberSet.{has};
 ghost use Rattle.pgp_map.specs.Pools.{is_same_group};
@@ -125,7 +125,7 @@ fn lists_twice(alloc: Global, temps: &[TempList]) -> Result<bool, AllocError>
 
 /// Something is there twice where it may be once.
 pub(crate) fn has_twice(alloc: Global, inc: &Incremental) -> Result<bool, AllocError>
-    ensures value { IfOk result (λ twice. twice ≡ has_twice inc.now) }
+    ensures value { IfOk result (λ twice. twice ≡ names_twice inc.now) }
     ensures wants { OnErr result (is_filled inc.now.temp ≡ true) }
 {
     Ok(

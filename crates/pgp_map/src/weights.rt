@@ -3,7 +3,7 @@
 ghost use Rattle.std.specs.Prelude.{◌≡◌, ℕ, ◌<◌, true, nat_eq, slice_index_or, length, OnOk, OnErr};
 ghost use Rattle.pgp_lists.specs.Last.{last_where};
 ghost use Rattle.pgp_map.specs.Memory.{is_filled};
-ghost use Rattle.pgp_map.specs.WeightTable.{is_whole, weight_in, with_weight};
+ghost use Rattle.pgp_map.specs.WeightTable.{is_full_weight, weight_in, with_weight};
 
 use pgp_crush::DEVICES;
 use pgp_ids::{DeviceWeight, OsdId};
@@ -20,7 +20,7 @@ static ALL_FULL: [u32; DEVICES] = [FULL; DEVICES];
 pub(crate) struct Weights {
     alloc: Global,
     table: Vec<u32>,
-    ghost whole: { is_whole (length table.items) ≡ true },
+    ghost whole: { is_full_weight (length table.items) ≡ true },
 }
 
 impl Weights {

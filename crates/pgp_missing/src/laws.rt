@@ -10,7 +10,7 @@ ghost use Rattle.pgp_missing.specs.Last.{IsLast};
 ghost use Rattle.pgp_missing.specs.Log.{number_of, IsByNumber, is_in_log, log_of, has_each_number, HasEachNumber, is_rising_from, is_whole};
 ghost use Rattle.pgp_missing.specs.Kept.{KeptLog, IsLogOf};
 ghost use Rattle.pgp_missing.specs.Missing.{object_of, entries_above, missing_by, IsByName, missing_above, IsMissing, peer_state};
-ghost use Rattle.pgp_missing.specs.Examples.{at, modify, delete, lacks, copy, copy_at, two_writes};
+ghost use Rattle.pgp_missing.specs.Examples.{at, modify_at, delete_at, lacks_at, copy_between, copy_at, two_writes};
 
 /// A complete peer that has the best copy's last write misses nothing.
 #[tactic(auto, using(crate::proofs::MissingLemmas::equal_peer))]
@@ -71,30 +71,30 @@ pub fn missing_objects_come_by_name()
 
 /// With both entries the log from [1,1] to [2,3] is whole, and says what a peer lacks that stands at one of its versions.
 pub fn whole_log()
-    ensures whole { is_whole (copy (at 1 1) (at 2 3)) two_writes ≡ true }
-    ensures at_the_first { let best = copy (at 1 1) (at 2 3) in
-        peer_state best two_writes (copy_at (at 1 2)) ≡ Missing (lacks (codes "b") (at 2 3) ∷ []) }
-    ensures at_the_tail { let best = copy (at 1 1) (at 2 3) in
+    ensures whole { is_whole (copy_between (at 1 1) (at 2 3)) two_writes ≡ true }
+    ensures at_the_first { let best = copy_between (at 1 1) (at 2 3) in
+        peer_state best two_writes (copy_at (at 1 2)) ≡ Missing (lacks_at (codes "b") (at 2 3) ∷ []) }
+    ensures at_the_tail { let best = copy_between (at 1 1) (at 2 3) in
         peer_state best two_writes (copy_at (at 1 1))
-        ≡ Missing (lacks (codes "a") (at 1 2) ∷ lacks (codes "b") (at 2 3) ∷ []) }
-    ensures at_no_version { let best = copy (at 1 1) (at 2 3) in
+        ≡ Missing (lacks_at (codes "a") (at 1 2) ∷ lacks_at (codes "b") (at 2 3) ∷ []) }
+    ensures at_no_version { let best = copy_between (at 1 1) (at 2 3) in
         peer_state best two_writes (copy_at (at 2 2)) ≡ Diverged }
-    ensures before_the_tail { let best = copy (at 1 1) (at 2 3) in
+    ensures before_the_tail { let best = copy_between (at 1 1) (at 2 3) in
         peer_state best two_writes (copy_at (at 0 0)) ≡ Backfill }
-    ensures not_complete { let best = copy (at 1 1) (at 2 3) in
+    ensures not_complete { let best = copy_between (at 1 1) (at 2 3) in
         peer_state best two_writes (record (copy_at (at 2 3)) { complete = false }) ≡ Backfill }
 {}
 
 /// A log isn't whole whose last entry isn't last_update, whose epochs fall, or that lacks a number.
 pub fn broken_logs()
-    ensures another_last { let last = modify (codes "b") (at 1 3) in
-        is_whole (copy (at 1 1) (at 2 3)) (modify (codes "a") (at 1 2) ∷ last ∷ []) ≡ false }
-    ensures falls_from_the_tail { is_whole (copy (at 2 1) (at 2 3)) two_writes ≡ false }
-    ensures falls_between { let first = modify (codes "a") (at 3 2) in
-        is_whole (copy (at 1 1) (at 2 3)) (first ∷ modify (codes "b") (at 2 3) ∷ []) ≡ false }
-    ensures lacks_one { is_whole (copy (at 1 0) (at 2 3)) two_writes ≡ false }
-    ensures lacks_most { is_whole (copy (at 1 1) (at 2 4294967295)) two_writes ≡ false }
-    ensures no_entries { is_whole (copy (at 1 1) (at 2 3)) [] ≡ false }
+    ensures another_last { let last = modify_at (codes "b") (at 1 3) in
+        is_whole (copy_between (at 1 1) (at 2 3)) (modify_at (codes "a") (at 1 2) ∷ last ∷ []) ≡ false }
+    ensures falls_from_the_tail { is_whole (copy_between (at 2 1) (at 2 3)) two_writes ≡ false }
+    ensures falls_between { let first = modify_at (codes "a") (at 3 2) in
+        is_whole (copy_between (at 1 1) (at 2 3)) (first ∷ modify_at (codes "b") (at 2 3) ∷ []) ≡ false }
+    ensures lacks_one { is_whole (copy_between (at 1 0) (at 2 3)) two_writes ≡ false }
+    ensures lacks_most { is_whole (copy_between (at 1 1) (at 2 4294967295)) two_writes ≡ false }
+    ensures no_entries { is_whole (copy_between (at 1 1) (at 2 3)) [] ≡ false }
 {}
 
 /// A log with no number is whole whatever was reported.
@@ -106,29 +106,29 @@ pub fn empty_log()
 
 /// By another info the same entries make up another log: of fewer numbers, or of more, of which some then lack one.
 pub fn log_by_another_info()
-    ensures ends_earlier { log_of (copy (at 1 1) (at 1 2)) two_writes ≡ modify (codes "a") (at 1 2) ∷ [] }
-    ensures begins_later { log_of (copy (at 1 2) (at 2 3)) two_writes ≡ modify (codes "b") (at 2 3) ∷ [] }
-    ensures whole_still { is_whole (copy (at 1 2) (at 2 3)) two_writes ≡ true }
-    ensures goes_further { is_whole (copy (at 1 1) (at 2 4)) two_writes ≡ false }
-    ensures begins_earlier { let first = modify (codes "z") (at 1 1) in
-        log_of (copy (at 0 0) (at 2 3)) (first ∷ two_writes) ≡ first ∷ two_writes }
+    ensures ends_earlier { log_of (copy_between (at 1 1) (at 1 2)) two_writes ≡ modify_at (codes "a") (at 1 2) ∷ [] }
+    ensures begins_later { log_of (copy_between (at 1 2) (at 2 3)) two_writes ≡ modify_at (codes "b") (at 2 3) ∷ [] }
+    ensures whole_still { is_whole (copy_between (at 1 2) (at 2 3)) two_writes ≡ true }
+    ensures goes_further { is_whole (copy_between (at 1 1) (at 2 4)) two_writes ≡ false }
+    ensures begins_earlier { let first = modify_at (codes "z") (at 1 1) in
+        log_of (copy_between (at 0 0) (at 2 3)) (first ∷ two_writes) ≡ first ∷ two_writes }
 {}
 
 /// Of the entries with one number the last counts, and their order is free.
 pub fn entries_reported_again()
-    ensures last { let first = modify (codes "z") (at 1 3) in
-        log_of (copy (at 1 1) (at 2 3)) (first ∷ two_writes) ≡ two_writes }
-    ensures whole { let first = modify (codes "z") (at 1 3) in
-        is_whole (copy (at 1 1) (at 2 3)) (first ∷ two_writes) ≡ true }
-    ensures any_order { let reported = modify (codes "b") (at 2 3) ∷ modify (codes "a") (at 1 2) ∷ [] in
-        is_whole (copy (at 1 1) (at 2 3)) reported ≡ true }
+    ensures last { let first = modify_at (codes "z") (at 1 3) in
+        log_of (copy_between (at 1 1) (at 2 3)) (first ∷ two_writes) ≡ two_writes }
+    ensures whole { let first = modify_at (codes "z") (at 1 3) in
+        is_whole (copy_between (at 1 1) (at 2 3)) (first ∷ two_writes) ≡ true }
+    ensures any_order { let reported = modify_at (codes "b") (at 2 3) ∷ modify_at (codes "a") (at 1 2) ∷ [] in
+        is_whole (copy_between (at 1 1) (at 2 3)) reported ≡ true }
 {}
 
 /// An object whose newest entry deletes it isn't missing; one that was made again is, once, at its newest version.
 pub fn deletes()
-    ensures deleted { missing_above 1 (modify (codes "a") (at 1 2) ∷ delete (codes "a") (at 1 3) ∷ []) ≡ [] }
-    ensures made_again { let later = delete (codes "a") (at 1 3) ∷ modify (codes "a") (at 1 4) ∷ [] in
-        missing_above 1 (modify (codes "a") (at 1 2) ∷ later) ≡ lacks (codes "a") (at 1 4) ∷ [] }
-    ensures deleted_before { missing_above 2 (delete (codes "a") (at 1 2) ∷ modify (codes "b") (at 1 3) ∷ [])
-        ≡ lacks (codes "b") (at 1 3) ∷ [] }
+    ensures deleted { missing_above 1 (modify_at (codes "a") (at 1 2) ∷ delete_at (codes "a") (at 1 3) ∷ []) ≡ [] }
+    ensures made_again { let later = delete_at (codes "a") (at 1 3) ∷ modify_at (codes "a") (at 1 4) ∷ [] in
+        missing_above 1 (modify_at (codes "a") (at 1 2) ∷ later) ≡ lacks_at (codes "a") (at 1 4) ∷ [] }
+    ensures deleted_before { missing_above 2 (delete_at (codes "a") (at 1 2) ∷ modify_at (codes "b") (at 1 3) ∷ [])
+        ≡ lacks_at (codes "b") (at 1 3) ∷ [] }
 {}

@@ -10,7 +10,7 @@ use Rattle.pgp_lists.proofs.Bools.{same_tests}
 use Rattle.pgp_lists.proofs.Members.{filter-contains, contains-filter, map-contains, contains-map, any-contains, contains-any}
 use Rattle.pgp_lists.proofs.Ordered.{nat_order, ascending-contains, contains-ascending}
 use Rattle.pgp_sets.specs.declared.status.Status.{Status}
-use Rattle.pgp_prior.specs.Members.{members_of, slots_of}
+use Rattle.pgp_prior.specs.Members.{members_of, member_slots}
 use Rattle.pgp_prior.specs.Blocks.{is_settled, is_down, acting_where, settled_slots, has_down, blocks}
 use Rattle.pgp_prior.specs.Better.{is_no_worse}
 use Rattle.pgp_prior.specs.Changes.{is_no_better, IsNoBetter}
@@ -47,7 +47,7 @@ module _ (by_place : Bool) (old new : ℕ → ℕ → Status) (p : Past) (reliev
       let members : List Member = members_of by_place p.members.acting in
       let was : List Member = acting_where is_settled by_place old p in
       let is : List Member = acting_where is_settled by_place new p in
-      is_within-each (slots_of was) (slots_of is) (λ k in'.
+      is_within-each (member_slots was) (member_slots is) (λ k in'.
       let found = map-contains slot was k (ascending-contains nat_lt (map slot was) k in') in
       let member : Member = found.0 in
       let kept = filter-contains (λ m. is_settled (old m.osd p.first)) members member found.1.0 in

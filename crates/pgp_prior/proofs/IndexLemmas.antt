@@ -9,7 +9,7 @@ use Rattle.pgp_lists.proofs.Members.{Contains-here, Contains-later, filter-agree
 use Rattle.pgp_sets.specs.declared.status.Status.{Status}
 use Rattle.pgp_prior.specs.declared.judged_interval.JudgedInterval.{JudgedInterval}
 use Rattle.pgp_prior.specs.Members.{members_of}
-use Rattle.pgp_prior.specs.Blocks.{is_up, is_down, matters, acting_where, down_osds, blocks}
+use Rattle.pgp_prior.specs.Blocks.{is_up_status, is_down, matters, acting_where, down_osds, blocks}
 use Rattle.pgp_prior.specs.JudgedInterval.{IsKept, past_of, later_les, EachKept}
 use Rattle.pgp_prior.specs.KeptLists.{kept_status, kept_matters, kept_blocks, up_of, down_of}
 use Rattle.pgp_prior.specs.IndexOf.{HasEachPlace}
@@ -63,10 +63,10 @@ module _ (enough : List ℕ → Bool) (by_place : Bool) (status : ℕ → ℕ �
       filter-agree _ _ (members_of by_place kept.past.members.acting)
       (λ m in'. ap test (status_or_gone-is kept.statuses.known.items m.osd _ (is.statuses_are m in')))
 
-  pub ups-same : (past : List JudgedInterval) → EachKept enough by_place status les past → flat_map (up_of by_place) (filter (kept_matters les) past) ≡ flat_map (acting_where is_up by_place status) (filter (matters les) (map past_of past))
+  pub ups-same : (past : List JudgedInterval) → EachKept enough by_place status les past → flat_map (up_of by_place) (filter (kept_matters les) past) ≡ flat_map (acting_where is_up_status by_place status) (filter (matters les) (map past_of past))
   ups-same past each =
-      walk-same past_of (kept_matters les) (matters les) (up_of by_place) (acting_where is_up by_place status) past
-      (λ kept in'. refl) (λ kept in'. acting-same is_up kept (each kept in'))
+      walk-same past_of (kept_matters les) (matters les) (up_of by_place) (acting_where is_up_status by_place status) past
+      (λ kept in'. refl) (λ kept in'. acting-same is_up_status kept (each kept in'))
 
   pub downs-same : (past : List JudgedInterval) → EachKept enough by_place status les past → flat_map (down_of by_place) (filter kept_blocks past) ≡ flat_map (down_osds by_place status) (filter (blocks enough by_place status les) (map past_of past))
   downs-same past each =

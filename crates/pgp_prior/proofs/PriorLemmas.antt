@@ -16,13 +16,13 @@ use Rattle.pgp_sets.specs.declared.status.Status.TheVariants.{Up, Down}
 use Rattle.pgp_prior.specs.declared.prior_set.Prior.{Prior}
 use Rattle.pgp_prior.specs.MemberOrder.{member_order}
 use Rattle.pgp_prior.specs.Members.{members_of}
-use Rattle.pgp_prior.specs.Blocks.{is_up, is_down, matters, acting_where, down_osds, settled_slots, has_down, blocks}
+use Rattle.pgp_prior.specs.Blocks.{is_up_status, is_down, matters, acting_where, down_osds, settled_slots, has_down, blocks}
 use Rattle.pgp_prior.specs.Prior.{probe, blocked_by, is_group_down, prior_set, IsBlocking, IsProbed}
 
 down_is : (status : Status) → is_down status ≡ true → status ≡ Down
 down_is status is = grind arith
 
-up_is : (status : Status) → is_up status ≡ true → status ≡ Up
+up_is : (status : Status) → is_up_status status ≡ true → status ≡ Up
 up_is status is = grind arith
 
 some_of : (list : List ℕ) → not (length list == 0) ≡ true → (osd : ℕ) × Contains list osd
@@ -113,16 +113,16 @@ module _ (by_place : Bool) (status : ℕ → ℕ → Status) (les : ℕ) (past :
   now = members_of by_place current.up ++ members_of by_place current.acting
 
   abbrev then : List Member
-  then = flat_map (acting_where is_up by_place status) (filter (matters les) past)
+  then = flat_map (acting_where is_up_status by_place status) (filter (matters les) past)
 
   abbrev up_in : Past → Member → Bool
-  up_in p member = is_up (status member.osd p.first)
+  up_in p member = is_up_status (status member.osd p.first)
 
   pub probe-IsProbed : (member : Member) → Contains (probe by_place status les past current) member → IsProbed by_place status les past current member
   probe-IsProbed member in' = elim (append-contains now then member (ascending-contains is_before (now ++ then) member in')) [
     | inl current' ↦ grind (arith, append-contains (members_of by_place current.up) (members_of by_place current.acting) member current')
     | inr old ↦
-        let found = flat_map-contains (acting_where is_up by_place status) (filter (matters les) past) member old in
+        let found = flat_map-contains (acting_where is_up_status by_place status) (filter (matters les) past) member old in
         let p : Past = found.0 in
         let kept = filter-contains (matters les) past p found.1.0 in
         let one = filter-contains (up_in p) (members_of by_place p.members.acting) member found.1.1 in
@@ -135,9 +135,9 @@ module _ (by_place : Bool) (status : ℕ → ℕ → Status) (les : ℕ) (past :
   IsProbed-there member (inr (inr old)) =
       let p : Past = old.0 in
       contains-append now then member
-      (inr (contains-flat_map (acting_where is_up by_place status) (filter (matters les) past) p member
+      (inr (contains-flat_map (acting_where is_up_status by_place status) (filter (matters les) past) p member
       (contains-filter (matters les) past p old.1 old.2)
-      (contains-filter (up_in p) (members_of by_place p.members.acting) member old.3 (ap is_up old.4))))
+      (contains-filter (up_in p) (members_of by_place p.members.acting) member old.3 (ap is_up_status old.4))))
 
   pub IsProbed-probe : (member : Member) → IsProbed by_place status les past current member → Contains (probe by_place status les past current) member
   IsProbed-probe member is = contains-ascending is_before member_order (now ++ then) member (IsProbed-there member is)

@@ -9,7 +9,7 @@ use Rattle.pgp_lists.specs.Ordered.{IsAscending, with_item}
 use Rattle.pgp_lists.proofs.Members.{Contains-here, Contains-later, contains-any}
 use Rattle.pgp_lists.proofs.Ordered.{nat_order, IsAscending-ascending}
 use Rattle.pgp_lists.proofs.Pairs.{AllPairs-rest}
-use Rattle.pgp_prior.specs.Members.{slots_of}
+use Rattle.pgp_prior.specs.Members.{member_slots}
 
 -- a set with one slot more is the ascending list with it
 pub with_slot-is : (slot : ℕ) (slots : List ℕ) → with_slot slot slots ≡ with_item nat_lt slot slots
@@ -24,8 +24,8 @@ IsSlotSet-ascending (s ∷ t ∷ slots) ascends = (
   IsSlotSet-ascending (t ∷ slots) (AllPairs-rest (λ x y. nat_lt x y ≡ true) s (t ∷ slots) ascends),
 )
 
-pub IsSlotSet-slots_of : (members : List Member) → IsSlotSet (slots_of members)
-IsSlotSet-slots_of members = IsSlotSet-ascending (slots_of members) (IsAscending-ascending nat_lt nat_order (map (λ (member : Member). member.slot) members))
+pub IsSlotSet-slots_of : (members : List Member) → IsSlotSet (member_slots members)
+IsSlotSet-slots_of members = IsSlotSet-ascending (member_slots members) (IsAscending-ascending nat_lt nat_order (map (λ (member : Member). member.slot) members))
 
 pub is_within-each : (slots others : List ℕ) → ((k : ℕ) → Contains slots k → Contains others k) → is_within slots others ≡ true
 is_within-each [] others each = refl

@@ -7,19 +7,25 @@ use Rattle.pgp_ids.specs.declared.member.Member.{Member}
 use Rattle.pgp_ids.specs.declared.past.Past.{Past}
 use Rattle.pgp_sets.specs.declared.status.Status.{Status}
 use Rattle.pgp_sets.specs.declared.status.Status.TheVariants.{Up, Gone, Lost, Down}
-use Rattle.pgp_prior.specs.Members.{members_of, slots_of}
+use Rattle.pgp_prior.specs.Members.{members_of, member_slots}
 
-abbrev pub is_up : Status → Bool
-is_up Up = true
-is_up Gone = false
-is_up Lost = false
-is_up Down = false
+abbrev pub is_up_status : Status → Bool
+is_up_status Up = true
+is_up_status Gone = false
+is_up_status Lost = false
+is_up_status Down = false
 
 abbrev pub is_down : Status → Bool
 is_down Up = false
 is_down Gone = false
 is_down Lost = false
 is_down Down = true
+
+abbrev pub is_lost : Status → Bool
+is_lost Up = false
+is_lost Gone = false
+is_lost Lost = true
+is_lost Down = false
 
 -- the device counts towards enough: what it held is at hand, or was given up for lost
 abbrev pub is_settled : Status → Bool
@@ -44,7 +50,7 @@ down_osds by_place status past = map (λ member. member.osd) (acting_where is_do
 
 -- the slots of the acting members that are up or lost
 abbrev pub settled_slots : Bool → (ℕ → ℕ → Status) → Past → List ℕ
-settled_slots by_place status past = slots_of (acting_where is_settled by_place status past)
+settled_slots by_place status past = member_slots (acting_where is_settled by_place status past)
 
 -- a member of acting is down
 abbrev pub has_down : Bool → (ℕ → ℕ → Status) → Past → Bool

@@ -26,8 +26,8 @@ acting_on acting =
 abbrev pub lay_on : Past
 lay_on = record { first = 1; last = 2; members = acting_on (Some 0 ∷ Some 1 ∷ Some 2 ∷ []); rw = true }
 
-abbrev pub lies_on : Membership
-lies_on = acting_on (Some 0 ∷ Some 3 ∷ Some 4 ∷ [])
+abbrev pub acting_now : Membership
+acting_now = acting_on (Some 0 ∷ Some 3 ∷ Some 4 ∷ [])
 
 -- device 0 is up, the devices 1 and 2 have these statuses, and those that came later are up
 abbrev pub with_statuses : Status → Status → ℕ → ℕ → Status
@@ -42,12 +42,12 @@ lay_unwritten = record lay_on { rw = false }
 
 -- the prior set of the group after these past intervals, where 1 and 2 have these statuses and it never served
 abbrev pub prior_after : List Past → Status → Status → Prior
-prior_after past one two = prior_set (enough_shards 2) true (with_statuses one two) 0 past lies_on
+prior_after past one two = prior_set (enough_shards 2) true (with_statuses one two) 0 past acting_now
 
 -- the prior set of the group, where 1 and 2 have these statuses and the group last began to serve in epoch `les`
 abbrev pub prior_with : Status → Status → ℕ → Prior
-prior_with one two les = prior_set (enough_shards 2) true (with_statuses one two) les (lay_on ∷ []) lies_on
+prior_with one two les = prior_set (enough_shards 2) true (with_statuses one two) les (lay_on ∷ []) acting_now
 
 -- the status of a device that isn't up and was given up for lost at the epoch `lost`, for an interval that began at `first`
-abbrev pub lost_at : ℕ → ℕ → Status
-lost_at lost first = if nat_lt first lost then Lost else Down
+abbrev pub lost_in : ℕ → ℕ → Status
+lost_in lost first = if nat_lt first lost then Lost else Down

@@ -14,8 +14,8 @@ pub record IsKept (enough : List ℕ → Bool) (by_place : Bool) (status : ℕ �
   pub blocks_is : kept.blocks ≡ blocks enough by_place status les kept.past
 
 -- both tell the same of the acting members of the interval
-abbrev pub AgreeOn : Bool → (ℕ → ℕ → Status) → (ℕ → ℕ → Status) → Past → Type 0
-AgreeOn by_place told status past =
+abbrev pub AgreeOnMembers : Bool → (ℕ → ℕ → Status) → (ℕ → ℕ → Status) → Past → Type 0
+AgreeOnMembers by_place told status past =
     (member : Member) → Contains (members_of by_place past.members.acting) member → told member.osd past.first ≡ status member.osd past.first
 
 abbrev pub past_of : JudgedInterval → Past

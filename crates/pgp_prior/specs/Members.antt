@@ -15,5 +15,5 @@ abbrev pub members_of : Bool → List (Option ℕ) → List Member
 members_of by_place places = filter_map (held_member by_place places) (range_with_len 0 (length places))
 
 -- the slots in which members are, in ascending order, each once
-abbrev pub slots_of : List Member → List ℕ
-slots_of members = ascending nat_lt (map (λ member. member.slot) members)
+abbrev pub member_slots : List Member → List ℕ
+member_slots members = ascending nat_lt (map (λ member. member.slot) members)

@@ -10,14 +10,14 @@ use Rattle.pgp_sets.specs.declared.status.Status.TheVariants.{Up, Down}
 use Rattle.pgp_prior.specs.declared.prior_set.Prior.{Prior}
 use Rattle.pgp_lists.specs.Ordered.{ascending}
 use Rattle.pgp_prior.specs.Members.{members_of}
-use Rattle.pgp_prior.specs.Blocks.{is_up, matters, acting_where, down_osds, settled_slots, blocks}
+use Rattle.pgp_prior.specs.Blocks.{is_up_status, matters, acting_where, down_osds, settled_slots, blocks}
 
 -- the members that have to be heard: those of up and acting, and those of acting of each interval that matters that are up
 abbrev pub probe : Bool → (ℕ → ℕ → Status) → ℕ → List Past → Membership → List Member
 probe by_place status les past current =
     ascending is_before
     (members_of by_place current.up ++ members_of by_place current.acting
-    ++ flat_map (acting_where is_up by_place status) (filter (matters les) past))
+    ++ flat_map (acting_where is_up_status by_place status) (filter (matters les) past))
 
 -- the devices for which the group has to wait: those of intervals that block that are down
 abbrev pub blocked_by : (List ℕ → Bool) → Bool → (ℕ → ℕ → Status) → ℕ → List Past → List ℕ

@@ -2,7 +2,7 @@ ghost use Rattle.std.specs.Prelude.{◌≡◌, ◌≤◌, ℕ, [], ◌∷◌, �
 ghost use Rattle.pgp_sets.specs.declared.status.Status.{Status};
 ghost use Rattle.pgp_prior.specs.Better.{is_no_worse};
 ghost use Rattle.pgp_prior.specs.Changes.{is_no_better, is_same_or_gone, allows, IsChange};
-ghost use Rattle.pgp_prior.specs.JudgedInterval.{AgreeOn};
+ghost use Rattle.pgp_prior.specs.JudgedInterval.{AgreeOnMembers};
 ghost use Rattle.pgp_prior.specs.IndexOf.{Basis, IsIndexOf, prior_by, is_down_by};
 ghost use Rattle.pgp_ids.specs.Past.{raised_at};
 
@@ -71,7 +71,7 @@ impl<R: Recoverable> PriorIndex<R> {
     /// index stands for what it stood for.
     pub fn add_past<S: StatusOf>(&mut self, past: Past, statuses: &S) -> Result<(), AllocError>
         ensures ok { OnOk result ((b : Basis R) → IsIndexOf R.enough R.by_place b self.old
-            → AgreeOn (R.by_place b.code) (S.status_of statuses.now) b.status past
+            → AgreeOnMembers (R.by_place b.code) (S.status_of statuses.now) b.status past
             → IsIndexOf R.enough R.by_place (record b { past = b.past ++ past ∷ [] }) self.new) }
         ensures err { OnErr result ((b : Basis R) → IsIndexOf R.enough R.by_place b self.old
             → IsIndexOf R.enough R.by_place b self.new) }

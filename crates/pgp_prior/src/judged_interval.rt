@@ -1,7 +1,7 @@
 ghost use Rattle.std.specs.Prelude.{◌≡◌, ℕ, IfOk};
 ghost use Rattle.pgp_sets.specs.declared.status.Status.{Status};
 ghost use Rattle.pgp_prior.specs.Changes.{allows, IsChangeIn};
-ghost use Rattle.pgp_prior.specs.JudgedInterval.{IsKept, AgreeOn, later_les};
+ghost use Rattle.pgp_prior.specs.JudgedInterval.{IsKept, AgreeOnMembers, later_les};
 ghost use Rattle.pgp_ids.specs.Past.{with_rw};
 
 use super::blocking::{blocks, matters};
@@ -32,7 +32,7 @@ impl JudgedInterval {
     ) -> Result<Self, AllocError>
         ensures past { IfOk result (λ kept. kept.past ≡ past) }
         ensures kept { IfOk result (λ kept. (status : ℕ → ℕ → Status)
-            → AgreeOn (R.by_place code.now) (S.status_of statuses.now) status past
+            → AgreeOnMembers (R.by_place code.now) (S.status_of statuses.now) status past
             → IsKept (R.enough code.now) (R.by_place code.now) status les kept) }
     {
         let known = Statuses::of_interval(alloc, code.by_place(), &past, statuses)?;

@@ -11,7 +11,7 @@ ghost use Rattle.pgp_prior.specs.Prior.{probe, blocked_by, is_group_down, IsBloc
 ghost use Rattle.pgp_prior.specs.Better.{is_no_worse, IsNoWorse};
 ghost use Rattle.pgp_prior.specs.Changes.{is_no_better, is_same_or_gone, IsNoBetter};
 ghost use Rattle.pgp_ids.specs.Past.{raised_at};
-ghost use Rattle.pgp_prior.specs.Examples.{prior_with, prior_after, lay_unwritten, lay_on, lost_at, in_slot};
+ghost use Rattle.pgp_prior.specs.Examples.{prior_with, prior_after, lay_unwritten, lay_on, lost_in, in_slot};
 
 use pgp_code::Recoverable;
 
@@ -115,11 +115,11 @@ pub fn shard_back_up()
 /// A shard that was given up for lost at epoch 2, after the interval began, is not waited for. Once it counts as lost at
 /// epoch 1 alone it is down again, which is worse, and the group waits for both shards.
 pub fn a_lost_shard_counts_as_lost_no_more()
-    ensures lost { (prior_with (lost_at 2 1) Down 0).down ≡ false }
-    ensures lowered { (prior_with (lost_at 1 1) Down 0).down ≡ true }
-    ensures blocked_by { (prior_with (lost_at 1 1) Down 0).blocked_by ≡ 1 ∷ 2 ∷ [] }
-    ensures worse { is_no_better (lost_at 2 1) (lost_at 1 1) ≡ true }
-    ensures not_better { is_no_worse (lost_at 2 1) (lost_at 1 1) ≡ false }
+    ensures lost { (prior_with (lost_in 2 1) Down 0).down ≡ false }
+    ensures lowered { (prior_with (lost_in 1 1) Down 0).down ≡ true }
+    ensures blocked_by { (prior_with (lost_in 1 1) Down 0).blocked_by ≡ 1 ∷ 2 ∷ [] }
+    ensures worse { is_no_better (lost_in 2 1) (lost_in 1 1) ≡ true }
+    ensures not_better { is_no_worse (lost_in 2 1) (lost_in 1 1) ≡ false }
 {}
 
 /// A lost shard that is destroyed can make a group down, and where the last one that it waits for is destroyed, it isn't

@@ -2,7 +2,7 @@ ghost use Rattle.std.specs.Prelude.{◌≡◌, IfOk, OnOk};
 ghost use Rattle.pgp_ids.specs.Member.{is_before};
 ghost use Rattle.pgp_lists.specs.Ordered.{IsAscending, with_items};
 ghost use Rattle.pgp_prior.specs.Members.{members_of};
-ghost use Rattle.pgp_prior.specs.Blocks.{is_up, acting_where};
+ghost use Rattle.pgp_prior.specs.Blocks.{is_up_status, acting_where};
 ghost use Rattle.pgp_prior.specs.Prior.{probe};
 
 use super::blocking::matters;
@@ -55,7 +55,7 @@ pub fn add_up<S: StatusOf>(
 ) -> Result<(), AllocError>
     requires { IsAscending is_before list.old.items }
     ensures { OnOk result (list.new.items
-        ≡ with_items is_before (acting_where is_up by_place (S.status_of statuses.now) past.now) list.old.items) }
+        ≡ with_items is_before (acting_where is_up_status by_place (S.status_of statuses.now) past.now) list.old.items) }
 {
     for member in members_of(by_place, &past.members.acting) {
         if is_up(statuses.status(member.osd, past.first)) {
@@ -67,7 +67,7 @@ pub fn add_up<S: StatusOf>(
 
 /// Whether a device of this status can be asked.
 fn is_up(status: Status) -> bool
-    ensures { result ≡ is_up status }
+    ensures { result ≡ is_up_status status }
 {
     status == Status::Up
 }

@@ -11,6 +11,7 @@ use Rattle.pgp_lists.proofs.Bools.{same_tests}
 use Rattle.pgp_lists.proofs.Ordered.{ascending-contains, contains-ascending, nat_order}
 use Rattle.pgp_lists.proofs.Members.{All-members, Contains-nil, Contains-here, any-contains, contains-any, contains-map, filter-contains, filter-agree, map-contains}
 use Rattle.pgp_lists.proofs.Pairs.{AllPairs-first, AllPairs-rest}
+use Rattle.pgp_lists.proofs.Ranges.{range-append}
 use Rattle.pgp_ids.specs.declared.log_entry.LogEntry.{LogEntry}
 use Rattle.pgp_missing.specs.Log.{has_number, number_of}
 use Rattle.pgp_group.proofs.Lists.{filter-each}
@@ -18,14 +19,6 @@ use Rattle.pgp_reasons.specs.Gaps.{from_to, then_runs, runs_of, numbers_above, r
 use Rattle.pgp_reasons.specs.declared.gap.Gap.{Gap}
 
 -- ---- numbers above one up to another
-
-range-append : (a k m : ℕ) → range_with_len a (k + m) ≡ range_with_len a k ++ range_with_len (a + k) m
-range-append a zero m = ap₂ range_with_len (omega arith) (omega arith)
-range-append a (suc k) m =
-    let more : suc k + m ≡ suc (k + m) = omega arith in
-    let from : (a + 1) + k ≡ a + suc k = omega arith in
-    ap (range_with_len a) more
-    ∙ ap (λ xs. a ∷ xs) (range-append (a + 1) k m ∙ ap (λ b. range_with_len (a + 1) k ++ range_with_len b m) from)
 
 pub range-contains : (a k v : ℕ) → Contains (range_with_len a k) v → (a ≤ v) × (v < a + k)
 range-contains a k v in' =

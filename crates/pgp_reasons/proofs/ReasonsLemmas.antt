@@ -29,7 +29,7 @@ use Rattle.pgp_group.specs.Entries.{incs_of}
 use Rattle.pgp_group.specs.GroupHistory.{history_of}
 use Rattle.pgp_group.specs.GroupLog.{GroupLog, group_in, group_with, incs, infos}
 use Rattle.pgp_group.specs.Heard.{counted_infos, heard, les}
-use Rattle.pgp_group.specs.Peering.{best, info_of, leader, past, prior}
+use Rattle.pgp_group.specs.Peering.{best, info_from, leader, past, prior}
 use Rattle.pgp_group.specs.Prefers.{prefers}
 use Rattle.pgp_group.specs.Present.{IsPresent}
 use Rattle.pgp_group.specs.View.{view_of}
@@ -93,15 +93,15 @@ best-heard g info is =
     let found = find-some (is_unbeaten better (candidates (heard g))) (candidates (heard g)) info is in
     (filter-contains _ (heard g) info found.0).0
 
-best-of : (g : GroupLog) (found : Option Info) → best g ≡ found → option_and_then (info_of (heard g)) (option_map (λ info. info.member) found) ≡ found
+best-of : (g : GroupLog) (found : Option Info) → best g ≡ found → option_and_then (info_from (heard g)) (option_map (λ info. info.member) found) ≡ found
 best-of g None is = refl
 best-of g (Some info) is = info_of-is (heard g) (HasDistinctMembers-last_of (counted_infos g)) info (best-heard g info is)
 
 -- the info that was found is the best
 pub best-found : (g : GroupLog) (list : List Info) (member : Option Member) (found : Option Info) → member ≡ option_map (λ info. info.member) (best g) → list ≡ heard g
-    → found ≡ option_and_then (info_of list) member → found ≡ best g
+    → found ≡ option_and_then (info_from list) member → found ≡ best g
 best-found g list member found of_best of_heard is =
-    is ∙ (λ i. option_and_then (info_of (of_heard i)) (of_best i)) ∙ best-of g (best g) refl
+    is ∙ (λ i. option_and_then (info_from (of_heard i)) (of_best i)) ∙ best-of g (best g) refl
 
 -- ---- what brings the group back
 

@@ -7,7 +7,7 @@ use Rattle.std.proofs.lemmas.List.Folds.{list_any-append}
 use Rattle.pgp_code.specs.AnyCode.{enough_of, enough_of-mono, is_by_place}
 use Rattle.pgp_ids.specs.declared.member.Member.{Member}
 use Rattle.pgp_ids.specs.declared.past.Past.{Past}
-use Rattle.pgp_lists.proofs.Bools.{same_tests}
+use Rattle.pgp_lists.proofs.Bools.{same_falses, same_tests}
 use Rattle.pgp_lists.proofs.Members.{any-contains, contains-any, filter-contains, contains-filter, contains-map, contains-flat_map}
 use Rattle.pgp_map.specs.Devices.{exists, is_up, lost_at}
 use Rattle.pgp_prior.specs.Blocks.{acting_where, blocks}
@@ -22,7 +22,7 @@ use Rattle.pgp_group.specs.GroupLog.{GroupLog, incs}
 use Rattle.pgp_group.specs.Heard.{les}
 use Rattle.pgp_group.specs.Peering.{past, prior}
 use Rattle.pgp_reasons.specs.Fates.{is_gone, osds_with}
-use Rattle.pgp_reasons.specs.GroupWays.{blocking_past, destroyed, is_down_with}
+use Rattle.pgp_reasons.specs.GroupWays.{blocking_past, destroyed_osds, is_down_with}
 use Rattle.pgp_reasons.specs.Smallest.{IsPartOf}
 use Rattle.pgp_reasons.specs.Ways.{given_up, status_after}
 use Rattle.pgp_reasons.proofs.SetLemmas.{held-one, one-held}
@@ -69,9 +69,6 @@ lost-relieves true Gone = same-relieves Gone Gone refl
 lost-relieves true Lost = same-relieves Lost Lost refl
 lost-relieves true Down = record { settled = λ s. refl; down = λ d. absurd (true≢false (sym d)) }
 lost-relieves false status = same-relieves status status refl
-
-same_falses : (a b : Bool) → (a ≡ false → b ≡ false) → (b ≡ false → a ≡ false) → a ≡ b
-same_falses a b one other = grind (arith, one, other)
 
 -- ---- a group
 
@@ -154,7 +151,7 @@ module _ (g : GroupLog) where
       ]
     ]
 
-    module _ (none : (osd : ℕ) → Contains starts osd → Contains (destroyed g) osd → ⊥) where
+    module _ (none : (osd : ℕ) → Contains starts osd → Contains (destroyed_osds g) osd → ⊥) where
       -- an acting member of an interval that blocks
       member-alike : (p : Past) → Contains (past g) p → blocks (enough_of g.history.code) (is_by_place g.history.code) here (les g) p ≡ true
           → EachRelieved (is_by_place g.history.code) (status_after starts losses here) (status_after kept_of [] here) p

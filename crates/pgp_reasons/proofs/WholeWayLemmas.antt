@@ -16,7 +16,7 @@ use Rattle.pgp_group.specs.GroupLog.{GroupLog, incs}
 use Rattle.pgp_group.specs.Heard.{les}
 use Rattle.pgp_group.specs.Peering.{past, prior}
 use Rattle.pgp_reasons.specs.Fates.{is_gone, osds_with}
-use Rattle.pgp_reasons.specs.GroupWays.{blocking_past, brings_back, destroyed, is_down_with, ways}
+use Rattle.pgp_reasons.specs.GroupWays.{blocking_past, brings_back, destroyed_osds, is_down_with, ways}
 use Rattle.pgp_reasons.specs.Reasons.{AreWaysOf}
 use Rattle.pgp_reasons.specs.Smallest.{holds, smallest, IsPartOf}
 use Rattle.pgp_reasons.specs.WayLaws.{relieved-more}
@@ -59,7 +59,7 @@ module _ (g : GroupLog) where
       ∙ not-false (is_down_with (starts ++ losses) [] g)
       (smallest-no_part (brings_back g) (IsMonotone-brings_back g) (prior g).blocked_by set (starts ++ losses) osd (in-ways set in') is there lacks)
 
-  pub ways-each : (starts losses : List ℕ) → (prior g).down ≡ true → ((osd : ℕ) → Contains starts osd → Contains (destroyed g) osd → ⊥) → is_down_with starts losses g ≡ false
+  pub ways-each : (starts losses : List ℕ) → (prior g).down ≡ true → ((osd : ℕ) → Contains starts osd → Contains (destroyed_osds g) osd → ⊥) → is_down_with starts losses g ≡ false
       → (set : List ℕ) × (Contains (ways g) set × IsPartOf set (starts ++ losses))
   ways-each starts losses down none up =
       let kept : List ℕ = kept_of g starts losses in
@@ -76,7 +76,7 @@ module _ (g : GroupLog) where
   count-agree : (one other : ℕ → Bool) (osds : List ℕ) → ((osd : ℕ) → Contains osds osd → one osd ≡ other osd) → count_by one osds ≡ count_by other osds
   count-agree one other osds agree = sym (length-filter one osds) ∙ ap length (filter-agree one other osds agree) ∙ length-filter other osds
 
-  pub any-all : (any : AnyOf) (starts losses : List ℕ) → (prior g).down ≡ true → AreWaysOf g (listed.Any any) → ((osd : ℕ) → Contains starts osd → Contains (destroyed g) osd → ⊥)
+  pub any-all : (any : AnyOf) (starts losses : List ℕ) → (prior g).down ≡ true → AreWaysOf g (listed.Any any) → ((osd : ℕ) → Contains starts osd → Contains (destroyed_osds g) osd → ⊥)
       → is_down_with starts losses g ≡ not (nat_le any.least (count_by (holds (starts ++ losses)) any.osds))
   any-all any starts losses down are none =
       let is = are.down down in
@@ -102,7 +102,7 @@ module _ (g : GroupLog) where
     | inr other ↦ true≢false (sym (rw other at gone))
   ]
 
-  pub none-destroyed : (set : List ℕ) (osd : ℕ) → Contains (ways g) set → Contains (destroyed g) osd → Contains set osd → ⊥
+  pub none-destroyed : (set : List ℕ) (osd : ℕ) → Contains (ways g) set → Contains (destroyed_osds g) osd → Contains set osd → ⊥
   none-destroyed set osd in' gone there =
       let waited = ways-of_them set in' osd there in
       let blocking = blocked_by-IsBlocking (enough_of g.history.code) (is_by_place g.history.code) (status (incs g)) (les g) (past g) osd waited in

@@ -6,7 +6,7 @@ use Rattle.pgp_ids.specs.Member.{is_before}
 use Rattle.pgp_ids.specs.declared.member.Member.{Member}
 use Rattle.pgp_ids.specs.declared.report.Info.{Info}
 use Rattle.pgp_lists.specs.Ordered.{ascending}
-use Rattle.pgp_prior.specs.Members.{slots_of}
+use Rattle.pgp_prior.specs.Members.{member_slots}
 use Rattle.pgp_reasons.specs.Lacking.{lacking}
 use Rattle.pgp_reasons.specs.declared.copies.Copies.{Copies}
 
@@ -25,7 +25,7 @@ has_slot_number member = nat_lt member.slot 16
 
 -- the slots of such members
 abbrev pub numbered_slots : List Member → List ℕ
-numbered_slots members = slots_of (filter has_slot_number members)
+numbered_slots members = member_slots (filter has_slot_number members)
 
 -- these members, and how many slots more than theirs the code needs
 abbrev pub copies_of : AnyCode → Option Info → List Info → Copies

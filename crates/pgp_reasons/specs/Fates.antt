@@ -6,7 +6,7 @@ use Rattle.pgp_code.specs.AnyCode.{enough_of, is_by_place}
 use Rattle.pgp_code.specs.declared.any.AnyCode.{AnyCode}
 use Rattle.pgp_ids.specs.declared.past.Past.{Past}
 use Rattle.pgp_lists.specs.Ordered.{ascending}
-use Rattle.pgp_prior.specs.Blocks.{is_up, is_down, acting_where}
+use Rattle.pgp_prior.specs.Blocks.{is_up_status, is_down, is_lost, acting_where}
 use Rattle.pgp_sets.specs.declared.status.Status.{Status}
 use Rattle.pgp_sets.specs.declared.status.Status.TheVariants.{Up, Gone, Lost, Down}
 use Rattle.pgp_reasons.specs.declared.fates.IntervalNow.{IntervalNow}
@@ -19,25 +19,19 @@ is_gone Gone = true
 is_gone Lost = false
 is_gone Down = false
 
-abbrev pub is_lost : Status → Bool
-is_lost Up = false
-is_lost Gone = false
-is_lost Lost = true
-is_lost Down = false
-
 -- it is this status
 abbrev pub is_status : Status → Status → Bool
-is_status Up = is_up
+is_status Up = is_up_status
 is_status Gone = is_gone
 is_status Lost = is_lost
 is_status Down = is_down
 
 -- the device still has what it held: it is up, or, where those that are away count too, down
-abbrev pub is_held : (away : Bool) → Status → Bool
-is_held away Up = true
-is_held away Gone = false
-is_held away Lost = false
-is_held away Down = away
+abbrev pub holds_still : (away : Bool) → Status → Bool
+holds_still away Up = true
+holds_still away Gone = false
+holds_still away Lost = false
+holds_still away Down = away
 
 -- the acting devices of the interval that have this status
 abbrev pub osds_with : Status → Bool → (ℕ → ℕ → Status) → Past → List ℕ
@@ -47,7 +41,7 @@ osds_with wanted by_place status interval =
 -- the slots of the acting members that still have what they held
 abbrev pub held_slots : (away : Bool) → Bool → (ℕ → ℕ → Status) → Past → List ℕ
 held_slots away by_place status interval =
-    map (λ member. member.slot) (acting_where (is_held away) by_place status interval)
+    map (λ member. member.slot) (acting_where (holds_still away) by_place status interval)
 
 -- they are enough to read what was written in the interval, if their copies are complete
 abbrev pub are_held : (away : Bool) → AnyCode → (ℕ → ℕ → Status) → Past → Bool

@@ -36,8 +36,8 @@ blocking_past g =
     filter (blocks (enough_of g.history.code) (is_by_place g.history.code) (status (incs g)) (les g)) (past g)
 
 -- the destroyed devices that served in one of them
-abbrev pub destroyed : GroupLog → List ℕ
-destroyed g = flat_map (osds_with Gone (is_by_place g.history.code) (status (incs g))) (blocking_past g)
+abbrev pub destroyed_osds : GroupLog → List ℕ
+destroyed_osds g = flat_map (osds_with Gone (is_by_place g.history.code) (status (incs g))) (blocking_past g)
 
 -- a device that is given up for lost at this epoch
 abbrev pub lost_at_epoch : ℕ → ℕ → DeviceEpoch

@@ -38,8 +38,8 @@ abbrev pub clean : GroupLog → Option IntervalNow
 clean g = clean_of g.history.code (status (incs g)) (lost_at (incs g)) (cleans g) (les g) (past g)
 
 -- the copies that were heard and may be followed
-abbrev pub copies : GroupLog → Copies
-copies g = copies_of g.history.code (best g) (heard g)
+abbrev pub copies_heard : GroupLog → Copies
+copies_heard g = copies_of g.history.code (best g) (heard g)
 
 -- what the acting set lacks, and who of those that served with it is down
 abbrev pub short : GroupLog → Short
@@ -66,7 +66,7 @@ pub record AreReasons (g : GroupLog) (reasons : Reasons) : Type 0 where
   pub blocking_is : reasons.blocking ≡ blocking g
   pub ways_are : AreWaysOf g reasons.ways
   pub clean_is : reasons.clean ≡ clean g
-  pub copies_is : reasons.copies ≡ copies g
+  pub copies_is : reasons.copies ≡ copies_heard g
   pub short_is : reasons.short ≡ short g
   pub gaps_is : reasons.gaps ≡ gaps g
 

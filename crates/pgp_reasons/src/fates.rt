@@ -3,7 +3,7 @@
 ghost use Rattle.std.specs.Prelude.{◌≡◌, nat_lt, IfOk, OnOk};
 ghost use Rattle.pgp_lists.specs.Ordered.{IsAscending, ascending, with_items};
 ghost use Rattle.pgp_map.specs.Held.{held_lost_at};
-ghost use Rattle.pgp_reasons.specs.Fates.{are_held, held_slots, interval_now, is_held, is_status, once_lost, osds_with, writes_by};
+ghost use Rattle.pgp_reasons.specs.Fates.{are_held, held_slots, interval_now, holds_still, is_status, once_lost, osds_with, writes_by};
 
 use pgp_code::{AnyCode, Recoverable};
 use pgp_ids::{Epoch, OsdId, Osds, Past, Seq, SlotSet};
@@ -178,7 +178,7 @@ pub(crate) fn add_held<S: StatusOf>(
 
 /// Whether a device of this status still has what it held: it is up, or, where those that are away count too, down.
 fn is_held(away: bool, status: Status) -> bool
-    ensures { result ≡ is_held away status }
+    ensures { result ≡ holds_still away status }
 {
     match status {
         Status::Up => true,

@@ -10,7 +10,7 @@ ghost use Rattle.pgp_group.specs.GroupLog.{GroupLog};
 ghost use Rattle.pgp_group.specs.Later.{IsAfter};
 ghost use Rattle.pgp_group.specs.Peering.{prior};
 ghost use Rattle.pgp_reasons.specs.Fates.{writes_by};
-ghost use Rattle.pgp_reasons.specs.GroupWays.{destroyed, is_down_with, ways, GoesWay};
+ghost use Rattle.pgp_reasons.specs.GroupWays.{destroyed_osds, is_down_with, ways, GoesWay};
 ghost use Rattle.pgp_reasons.specs.Price.{price_by};
 ghost use Rattle.pgp_reasons.specs.Reasons.{AreWaysOf};
 ghost use Rattle.pgp_reasons.specs.Smallest.{smallest, holds, IsPartOf};
@@ -49,7 +49,7 @@ pub fn smallest_are_all()
     ensures no_part { (g : GroupLog) (set starts losses : List ℕ) (osd : ℕ) → Contains (ways g) set → IsPartOf (starts ++ losses) set
         → Contains set osd → (Contains (starts ++ losses) osd → ⊥) → is_down_with starts losses g ≡ true }
     ensures each { (g : GroupLog) (starts losses : List ℕ) → (prior g).down ≡ true
-        → ((osd : ℕ) → Contains starts osd → Contains (destroyed g) osd → ⊥) → is_down_with starts losses g ≡ false
+        → ((osd : ℕ) → Contains starts osd → Contains (destroyed_osds g) osd → ⊥) → is_down_with starts losses g ≡ false
         → (set : List ℕ) × (Contains (ways g) set × IsPartOf set (starts ++ losses)) }
 {}
 
@@ -57,13 +57,13 @@ pub fn smallest_are_all()
 /// as many of these, as long as no device boots that was destroyed after it had served in an interval that blocks.
 pub fn any_so_many_are_all()
     ensures { (g : GroupLog) (any : AnyOf) (starts losses : List ℕ) → (prior g).down ≡ true → AreWaysOf g (listed.Any any)
-        → ((osd : ℕ) → Contains starts osd → Contains (destroyed g) osd → ⊥)
+        → ((osd : ℕ) → Contains starts osd → Contains (destroyed_osds g) osd → ⊥)
         → is_down_with starts losses g ≡ not (nat_le any.least (count_by (holds (starts ++ losses)) any.osds)) }
 {}
 
 /// A device that is a member of an interval that blocks and was destroyed is in no set: it can't be started, nor be declared lost.
 pub fn no_set_has_a_destroyed_device()
-    ensures { (g : GroupLog) (set : List ℕ) (osd : ℕ) → Contains (ways g) set → Contains (destroyed g) osd → Contains set osd → ⊥ }
+    ensures { (g : GroupLog) (set : List ℕ) (osd : ℕ) → Contains (ways g) set → Contains (destroyed_osds g) osd → Contains set osd → ⊥ }
 {}
 
 /// Of the devices 0, 3 and 5 the first alone is enough, or the two others. Three devices of which any two are enough have

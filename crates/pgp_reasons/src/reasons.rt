@@ -2,7 +2,7 @@ ghost use Rattle.std.specs.Prelude.{◌≡◌, map as mapped, option_and_then, I
 ghost use Rattle.std.specs.Arc.{arc_value};
 ghost use Rattle.std.specs.Option.{option_copied};
 ghost use Rattle.pgp_group.specs.GroupLog.{GroupLog};
-ghost use Rattle.pgp_group.specs.Peering.{info_of};
+ghost use Rattle.pgp_group.specs.Peering.{info_from};
 ghost use Rattle.pgp_reasons.specs.Reasons.{AreReasons, IsViewed, IsAskedOf};
 
 use super::blocking::{Blocking, clean_of, intervals_that_block};
@@ -96,7 +96,7 @@ fn reasons_by(
 
 /// The member's info, if there is a member and it has one.
 fn info_of_best(infos: &[Info], member: Option<Member>) -> Option<&Info>
-    ensures { option_copied result ≡ option_and_then (info_of infos.now) member }
+    ensures { option_copied result ≡ option_and_then (info_from infos.now) member }
 {
     match member {
         Some(member) => info_of(infos, member),
@@ -106,7 +106,7 @@ fn info_of_best(infos: &[Info], member: Option<Member>) -> Option<&Info>
 
 /// The member's info, if it has one.
 fn info_of(infos: &[Info], member: Member) -> Option<&Info>
-    ensures { option_copied result ≡ info_of infos.now member }
+    ensures { option_copied result ≡ info_from infos.now member }
 {
     infos.iter().find(|info| info.member == member)
 }

@@ -6,7 +6,7 @@ use Rattle.std.specs.List.{filter}
 use Rattle.std.specs.Prelude.{map}
 use Rattle.std.specs.Option.{option_map, option_map_or}
 use Rattle.std.proofs.lemmas.Option.{same_Some}
-use Rattle.pgp_ids.specs.Pool.{is_by_place}
+use Rattle.pgp_ids.specs.Pool.{is_kind_by_place}
 use Rattle.pgp_ids.specs.declared.incremental.Incremental.{Incremental}
 use Rattle.pgp_ids.specs.declared.membership.Membership.{Membership}
 use Rattle.pgp_ids.specs.declared.pg_id.PgId.{PgId}
@@ -55,7 +55,7 @@ without_down-at_most incs pool places =
     let up = λ (place : Option ℕ). option_map_or (is_up incs) place false in
     grind (arith, length-map places (if_up incs), length-filter up places, count_by-le-length up places)
 
-without_down-size : (incs : List Incremental) (pool : PoolSpec) (places : List (Option ℕ)) → is_by_place pool.kind ≡ true → length (without_down incs pool places) ≡ length places
+without_down-size : (incs : List Incremental) (pool : PoolSpec) (places : List (Option ℕ)) → is_kind_by_place pool.kind ≡ true → length (without_down incs pool places) ≡ length places
 without_down-size incs pool places by_place = grind (arith, length-map places (if_up incs))
 
 pub up-at_most : (incs : List Incremental) (pg : PgId) (members : Membership) → membership incs pg ≡ Some members → length members.up ≤ members.size
@@ -64,7 +64,7 @@ up-at_most incs pg = of_pool (λ members. length members.up ≤ members.size) in
     let kept = without_down-at_most incs made (raw_set incs made pg) in
     omega (arith, placed, kept))
 
-pub up-size : (incs : List Incremental) (pg : PgId) (made : PoolSpec) (members : Membership) → pool incs pg.pool ≡ Some made → is_by_place made.kind ≡ true
+pub up-size : (incs : List Incremental) (pg : PgId) (made : PoolSpec) (members : Membership) → pool incs pg.pool ≡ Some made → is_kind_by_place made.kind ≡ true
     → membership incs pg ≡ Some members → length members.up ≡ members.size
 up-size incs pg made members there by_place is =
     let same : pool_membership incs pg made ≡ members = same_Some _ _ (ap (option_map (pool_membership incs pg)) (sym there) ∙ is) in

@@ -9,7 +9,7 @@ use Rattle.pgp_crush.specs.declared.rule.Rule.{Rule}
 use Rattle.pgp_crush.specs.Out.{is_in_by}
 use Rattle.pgp_crush.specs.Placement.{placement}
 use Rattle.pgp_ids.specs.Osds.{first_osd}
-use Rattle.pgp_ids.specs.Pool.{is_by_place}
+use Rattle.pgp_ids.specs.Pool.{is_kind_by_place}
 use Rattle.pgp_ids.specs.declared.incremental.DeviceWeight.{DeviceWeight}
 use Rattle.pgp_ids.specs.declared.incremental.Incremental.{Incremental}
 use Rattle.pgp_ids.specs.declared.membership.Membership.{Membership}
@@ -22,7 +22,7 @@ use Rattle.pgp_map.specs.Pools.{pool, temp}
 
 -- how a pool places its groups: in an erasure or grouped pool each position keeps its place
 abbrev pub rule_of : PoolSpec → Rule
-rule_of pool = record { indep = is_by_place pool.kind; leaf = pool.leaf }
+rule_of pool = record { indep = is_kind_by_place pool.kind; leaf = pool.leaf }
 
 -- what a group's placement hashes: its number among those of the pool, and the pool
 abbrev pub placement_input : PoolSpec → PgId → ℕ
@@ -80,7 +80,7 @@ may_place_elsewhere incs inc pg =
 -- one
 abbrev pub without_down : List Incremental → PoolSpec → List (Option ℕ) → List (Option ℕ)
 without_down incs pool places =
-    if is_by_place pool.kind then map (if_up incs) places else filter (λ place. option_map_or (is_up incs) place false) places
+    if is_kind_by_place pool.kind then map (if_up incs) places else filter (λ place. option_map_or (is_up incs) place false) places
 
 -- the group's placement, without devices that aren't up
 abbrev pub up_set : List Incremental → PoolSpec → PgId → List (Option ℕ)

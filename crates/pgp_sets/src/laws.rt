@@ -3,7 +3,7 @@
 
 ghost use Rattle.std.specs.Prelude.{◌≡◌, ◌≤◌, ℕ, List, Option, true, false, [], ◌∷◌, Some, None, length};
 ghost use Rattle.pgp_sets.specs.declared.status.Status.TheVariants.{Up, Gone, Lost, Down};
-ghost use Rattle.pgp_ids.specs.Pool.{is_by_place};
+ghost use Rattle.pgp_ids.specs.Pool.{is_kind_by_place};
 ghost use Rattle.pgp_ids.specs.declared.incremental.Incremental.{Incremental};
 ghost use Rattle.pgp_ids.specs.declared.membership.Membership.{Membership};
 ghost use Rattle.pgp_ids.specs.declared.pg_id.PgId.{PgId};
@@ -30,7 +30,7 @@ pub fn up_sets_have_their_size()
     ensures at_most { (incs : List Incremental) (pg : PgId) (members : Membership)
         → membership incs pg ≡ Some members → length members.up ≤ members.size }
     ensures by_place { (incs : List Incremental) (pg : PgId) (made : PoolSpec) (members : Membership) → pool incs pg.pool ≡ Some made
-        → is_by_place made.kind ≡ true → membership incs pg ≡ Some members → length members.up ≡ members.size }
+        → is_kind_by_place made.kind ≡ true → membership incs pg ≡ Some members → length members.up ≡ members.size }
 {}
 
 /// Where the tree puts a group stays, unless an incremental gives a tree, sizes of the group's pool, or a weight by which a device

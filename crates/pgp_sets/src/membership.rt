@@ -1,9 +1,8 @@
 //! Where a placement group lies.
 
-ghost use Rattle.std.specs.Prelude.{◌≡◌, ◌≤◌, List, Some, option_map};
-ghost use Rattle.pgp_ids.specs.declared.incremental.Incremental.{Incremental};
+ghost use Rattle.std.specs.Prelude.{◌≡◌, ◌≤◌, Some, option_map};
 ghost use Rattle.pgp_map.specs.Held.{HasGroup};
-ghost use Rattle.pgp_map.specs.MapOf.{IsMapOf};
+ghost use Rattle.pgp_map.specs.MapOf.{Says};
 ghost use Rattle.pgp_map.specs.Pools.{pool};
 ghost use Rattle.pgp_sets.specs.Sets.{membership, raw_set, without_down, acting_set, members_from_up, placement_input, rule_of};
 
@@ -21,7 +20,7 @@ use pgp_map::OsdMap;
 /// each pool is whose map came by checked incrementals. No memory is taken.
 pub fn up_acting(map: &OsdMap, pg: PgId) -> Membership
     requires { HasGroup map.now pg }
-    ensures { (incs : List Incremental) → IsMapOf incs map.now → membership incs pg ≡ Some result }
+    ensures { Says map.now (λ incs. membership incs pg ≡ Some result) }
 {
     filter(map, &pg, &raw(map, &pg))
 }
@@ -30,8 +29,7 @@ pub fn up_acting(map: &OsdMap, pg: PgId) -> Membership
 /// size do. No memory is taken.
 pub fn raw(map: &OsdMap, pg: &PgId) -> Osds
     requires { HasGroup map.now pg.now }
-    ensures { (incs : List Incremental) → IsMapOf incs map.now
-        → option_map (λ made. raw_set incs made pg.now) (pool incs pg.now.pool) ≡ Some result }
+    ensures { Says map.now (λ incs. option_map (λ made. raw_set incs made pg.now) (pool incs pg.now.pool) ≡ Some result) }
 {
     let pool = pool_of(map, pg);
     place(
@@ -46,8 +44,8 @@ pub fn raw(map: &OsdMap, pg: &PgId) -> Osds
 /// The membership of the group, where the tree puts it on these places: [`up_acting`] is this of [`raw`]. No memory is taken.
 pub fn filter(map: &OsdMap, pg: &PgId, raw: &Osds) -> Membership
     requires { HasGroup map.now pg.now }
-    ensures { (incs : List Incremental) → IsMapOf incs map.now
-        → option_map (λ made. members_from_up incs made pg.now (without_down incs made raw.now)) (pool incs pg.now.pool) ≡ Some result }
+    ensures { Says map.now (λ incs. option_map (λ made. members_from_up incs made pg.now (without_down incs made raw.now)) (pool incs pg.now.pool)
+        ≡ Some result) }
 {
     let pool = pool_of(map, pg);
     let up = without_down(map, &pool, raw.as_slice());
@@ -67,7 +65,7 @@ pub fn filter(map: &OsdMap, pg: &PgId, raw: &Osds) -> Membership
 /// The group's pool.
 pub(crate) fn pool_of(map: &OsdMap, pg: &PgId) -> PoolSpec
     requires { HasGroup map.now pg.now }
-    ensures told { (incs : List Incremental) → IsMapOf incs map.now → pool incs pg.now.pool ≡ Some result }
+    ensures told { Says map.now (λ incs. pool incs pg.now.pool ≡ Some result) }
     ensures size { result.size ≤ MAX_OSDS }
 {
     // Not `unwrap`, of which the toolchain has no proof at a type that holds the parts of a grouped pool.
@@ -98,7 +96,7 @@ pub(crate) fn placement_input(pool: &PoolSpec, pg: &PgId) -> u32
 
 /// Who serves the group, where this is its up set.
 fn acting_set(map: &OsdMap, pool: &PoolSpec, pg: &PgId, up: &Osds) -> Osds
-    ensures { (incs : List Incremental) → IsMapOf incs map.now → result ≡ acting_set incs pool.now pg.now up.now }
+    ensures { Says map.now (λ incs. result ≡ acting_set incs pool.now pg.now up.now) }
 {
     let given = without_down(map, pool, map.temp(*pg));
     if given.is_empty() { up.copy() } else { given }

@@ -1,10 +1,9 @@
 //! Lists of devices, without those that aren't up.
 
-ghost use Rattle.std.specs.Prelude.{◌≡◌, ◌≤◌, List, None, false, length, filter, map as map_list, if◌then◌else◌};
+ghost use Rattle.std.specs.Prelude.{◌≡◌, ◌≤◌, None, false, length, filter, map as map_list, if◌then◌else◌};
 ghost use Rattle.std.specs.Option.{option_map_or};
-ghost use Rattle.pgp_ids.specs.declared.incremental.Incremental.{Incremental};
 ghost use Rattle.pgp_map.specs.Held.{held_up};
-ghost use Rattle.pgp_map.specs.MapOf.{IsMapOf};
+ghost use Rattle.pgp_map.specs.MapOf.{Says};
 ghost use Rattle.pgp_sets.specs.Sets.{without_down};
 
 use pgp_ids::{MAX_OSDS, Osds, Place, PoolSpec};
@@ -14,8 +13,7 @@ use pgp_map::OsdMap;
 /// are left out.
 pub(crate) fn without_down(map: &OsdMap, pool: &PoolSpec, places: &[Place]) -> Osds
     requires { length places.now ≤ MAX_OSDS }
-    ensures { (incs : List Incremental) → IsMapOf incs map.now
-        → result ≡ without_down incs pool.now places.now }
+    ensures { Says map.now (λ incs. result ≡ without_down incs pool.now places.now) }
 {
     if pool.kind.is_by_place() {
         emptied(map, places)

@@ -1,4 +1,4 @@
-ghost use Rattle.std.specs.Prelude.{◌≡◌, ℕ, List};
+ghost use Rattle.std.specs.Prelude.{◌≡◌, ℕ};
 ghost use Rattle.pgp_sets.specs.declared.status.Status.{Status};
 
 use super::status::Status;
@@ -19,15 +19,14 @@ pub trait StatusOf {
 /// The status that the map's incrementals give: a device that was destroyed is gone, also if it was given up for lost, and
 /// one that was given up for lost counts as that only for intervals that began before.
 impl StatusOf for OsdMap {
-    ghost use Rattle.pgp_ids.specs.declared.incremental.Incremental.{Incremental};
-    ghost use Rattle.pgp_map.specs.MapOf.{IsMapOf};
+    ghost use Rattle.pgp_map.specs.MapOf.{Says};
     ghost use Rattle.pgp_sets.specs.Status.{status, held_status};
 
     ghost status_of = { held_status };
 
     fn status(&self, osd: OsdId, first: Epoch) -> Status
         ensures held { result ≡ held_status self.now osd first }
-        ensures value { (incs : List Incremental) → IsMapOf incs self.now → result ≡ status incs osd first }
+        ensures value { Says self.now (λ incs. result ≡ status incs osd first) }
     {
         if self.is_up(osd) {
             Status::Up

@@ -1,11 +1,10 @@
 //! Weights by which a device comes in for a group or goes out of its raw set.
 
 ghost use Rattle.std.specs.List.{list_any};
-ghost use Rattle.std.specs.Prelude.{◌≡◌, List};
-ghost use Rattle.pgp_ids.specs.declared.incremental.Incremental.{Incremental};
+ghost use Rattle.std.specs.Prelude.{◌≡◌};
 ghost use Rattle.pgp_map.specs.Devices.{weight};
 ghost use Rattle.pgp_map.specs.Held.{HasGroup};
-ghost use Rattle.pgp_map.specs.MapOf.{IsMapOf};
+ghost use Rattle.pgp_map.specs.MapOf.{Says};
 ghost use Rattle.pgp_sets.specs.Sets.{has_osd, switches, switches_any};
 
 use super::membership::{placement_input, pool_of};
@@ -18,7 +17,7 @@ use pgp_map::OsdMap;
 /// weighed, and neither a tree nor sizes of the pool came, the group stays there ([`laws`](crate::laws)). No memory is taken.
 pub fn switches_any(after: &OsdMap, pg: &PgId, places: &[Place], before: &[DeviceWeight]) -> bool
     requires { HasGroup after.now pg.now }
-    ensures { (incs : List Incremental) → IsMapOf incs after.now → result ≡ switches_any incs pg.now places.now before.now }
+    ensures { Says after.now (λ incs. result ≡ switches_any incs pg.now places.now before.now) }
 {
     if before.is_empty() {
         return false;
@@ -29,8 +28,7 @@ pub fn switches_any(after: &OsdMap, pg: &PgId, places: &[Place], before: &[Devic
 
 /// Whether one of the devices is switched for this input, which gave these places.
 fn switches_any_for(x: u32, after: &OsdMap, places: &[Place], before: &[DeviceWeight]) -> bool
-    ensures { (incs : List Incremental) → IsMapOf incs after.now
-        → result ≡ list_any (λ old. switches x places.now old.osd old.weight (weight incs old.osd)) before.now }
+    ensures { Says after.now (λ incs. result ≡ list_any (λ old. switches x places.now old.osd old.weight (weight incs old.osd)) before.now) }
 {
     for old in before {
         if switches(x, places, old.osd, old.weight, after.weight(old.osd)) {

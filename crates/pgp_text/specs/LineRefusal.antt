@@ -4,7 +4,7 @@ use Rattle.serde_json.specs.Data.{Data, string}
 use Rattle.pgp_ids.specs.AskRefusal.{ask_refusal_number, ask_refusal_name}
 use Rattle.pgp_ids.specs.LocateRefusal.{locate_refusal_number, locate_refusal_name}
 use Rattle.pgp_ids.specs.Refusal.{refusal_number, refusal_name, refusal_tree}
-use Rattle.pgp_ids.specs.TextFault.{fault_number}
+use Rattle.pgp_ids.specs.TextFault.{text_fault_number}
 use Rattle.pgp_ids.specs.declared.text_fault.TextFault.{TextFault}
 use Rattle.pgp_ids.specs.declared.text_fault.TextFault.TheVariants.{LineTooLong, NotJson, NoOp, UnknownKey, BadField, Memory}
 use Rattle.pgp_text.specs.Json.{Field, object_with, number_data}
@@ -31,7 +31,7 @@ fault_key Memory = None
 
 -- the number of a refusal
 abbrev pub refused_number : LineRefusal → ℕ
-refused_number (Line fault) = fault_number fault
+refused_number (Line fault) = text_fault_number fault
 refused_number (Entry refusal) = refusal_number refusal
 refused_number (Ask refusal) = ask_refusal_number refusal
 refused_number (Locate refusal) = locate_refusal_number refusal

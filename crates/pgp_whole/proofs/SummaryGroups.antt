@@ -19,7 +19,7 @@ use Rattle.pgp_group.specs.Present.{IsPresent}
 use Rattle.pgp_group.specs.View.{scratch, view_of}
 use Rattle.pgp_group.proofs.Lists.{nothing_new, one_new}
 use Rattle.pgp_reasons.specs.Reasons.{IsViewed}
-use Rattle.pgp_whole.specs.Hearing.{AreStamps, hears, is_same_sender, sender_of}
+use Rattle.pgp_whole.specs.Hearing.{AreStamps, hears, is_same_source, source_of}
 use Rattle.pgp_whole.specs.Sums.{AreSums}
 use Rattle.pgp_whole.specs.declared.group_sums.GroupSums.{GroupSums}
 use Rattle.pgp_whole.specs.declared.stamps.Sender.{Sender}
@@ -52,10 +52,10 @@ module _ (log : List Entry) (map' : OsdMap) (pg : PgId) (view : View) (g : Group
 
   -- a stamp that is kept counts just where the group has heard the member
   pub heard-by : {S : Type 0} (member : Member) (stamps : HashMap Sender ℕ S) → AreStamps log stamps
-      → option_map_or (is_counted g member) (hash.get is_same_sender stamps (sender_of pg member)) false ≡ has_member member (heard g)
+      → option_map_or (is_counted g member) (hash.get is_same_source stamps (source_of pg member)) false ≡ has_member member (heard g)
   heard-by member stamps are =
       let named = group-named log pg g is.group_is in
-      ap (λ p. option_map_or (is_counted g member) (hash.get is_same_sender stamps (sender_of p member)) false) (sym named.0)
+      ap (λ p. option_map_or (is_counted g member) (hash.get is_same_source stamps (source_of p member)) false) (sym named.0)
       ∙ are g member
       ∙ ap (list_any (hears g member)) (sym named.1)
       ∙ hears-all g member

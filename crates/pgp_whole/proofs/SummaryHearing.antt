@@ -20,7 +20,7 @@ use Rattle.pgp_group.specs.Entries.{infos_of}
 use Rattle.pgp_group.specs.GroupLog.{GroupLog, incs}
 use Rattle.pgp_group.specs.Heard.{has_member, heard, counted_infos, is_counted, last_of_each_member}
 use Rattle.pgp_group.proofs.PeerLemmas.{same_member}
-use Rattle.pgp_whole.specs.Hearing.{AreStamps, hears, hears_by, is_same_sender, sender_of}
+use Rattle.pgp_whole.specs.Hearing.{AreStamps, hears, hears_by, is_same_source, source_of}
 use Rattle.pgp_whole.specs.declared.stamps.Sender.{Sender}
 
 -- ---- one info more
@@ -42,15 +42,15 @@ none-true : (old a b c : Bool) → a && c ≡ false → old ≡ old || (a && (b 
 none-true old a b c none = grind arith
 
 pub info-more : {S : Type 0} (g : GroupLog) (member : Member) (info : Info) (old new : HashMap Sender ℕ S) (stamp : ℕ)
-    → stamp ≡ option_map_or (λ other. max info.stamp other) (hash.get is_same_sender old (sender_of info.pg info.member)) info.stamp
-    → hash.get is_same_sender new (sender_of g.pg member)
-    ≡ cond (is_same_sender (sender_of info.pg info.member) (sender_of g.pg member)) (Some stamp) (hash.get is_same_sender old (sender_of g.pg member))
-    → option_map_or (is_counted g member) (hash.get is_same_sender new (sender_of g.pg member)) false
-    ≡ option_map_or (is_counted g member) (hash.get is_same_sender old (sender_of g.pg member)) false || hears_by g member info
+    → stamp ≡ option_map_or (λ other. max info.stamp other) (hash.get is_same_source old (source_of info.pg info.member)) info.stamp
+    → hash.get is_same_source new (source_of g.pg member)
+    ≡ cond (is_same_source (source_of info.pg info.member) (source_of g.pg member)) (Some stamp) (hash.get is_same_source old (source_of g.pg member))
+    → option_map_or (is_counted g member) (hash.get is_same_source new (source_of g.pg member)) false
+    ≡ option_map_or (is_counted g member) (hash.get is_same_source old (source_of g.pg member)) false || hears_by g member info
 info-more g member info old new stamp is updated =
     let count : Option ℕ → Bool = λ found. option_map_or (is_counted g member) found false in
-    let was : Option ℕ = hash.get is_same_sender old (sender_of g.pg member) in
-    elim (cases_Bool (is_same_sender (sender_of info.pg info.member) (sender_of g.pg member))) [
+    let was : Option ℕ = hash.get is_same_source old (source_of g.pg member) in
+    elim (cases_Bool (is_same_source (source_of info.pg info.member) (source_of g.pg member))) [
       | inl same ↦
           let both = and_parts (is_same_group info.pg g.pg) (is_same_member info.member member) same in
           let pg : info.pg ≡ g.pg = same_group info.pg g.pg both.0 in
@@ -58,7 +58,7 @@ info-more g member info old new stamp is updated =
           let here : is_counted g member info.stamp ≡ hears_by g member info =
           ap (λ m. is_counted g m info.stamp) (sym who) ∙ all-true (is_same_group info.pg g.pg) (is_counted g info.member info.stamp) (is_same_member info.member member) both.0 both.1 in
           ap count (updated ∙ ap (λ b. cond b (Some stamp) was) same)
-          ∙ ap (is_counted g member) (is ∙ (λ i. option_map_or (λ other. max info.stamp other) (hash.get is_same_sender old (sender_of (pg i) (who i))) info.stamp))
+          ∙ ap (is_counted g member) (is ∙ (λ i. option_map_or (λ other. max info.stamp other) (hash.get is_same_source old (source_of (pg i) (who i))) info.stamp))
           ∙ counted-kept g member info.stamp was
           ∙ ap (λ b. count was || b) here
       | inr other ↦
@@ -71,8 +71,8 @@ or-none b = grind arith
 
 -- the stamps with an entry more, which may change what is kept
 pub stamps-more : {S : Type 0} (entries : List Entry) (e : Entry) (old new : HashMap Sender ℕ S)
-    → ((g : GroupLog) (member : Member) → option_map_or (is_counted g member) (hash.get is_same_sender new (sender_of g.pg member)) false
-    ≡ option_map_or (is_counted g member) (hash.get is_same_sender old (sender_of g.pg member)) false || hears g member e)
+    → ((g : GroupLog) (member : Member) → option_map_or (is_counted g member) (hash.get is_same_source new (source_of g.pg member)) false
+    ≡ option_map_or (is_counted g member) (hash.get is_same_source old (source_of g.pg member)) false || hears g member e)
     → AreStamps entries old → AreStamps (entries ++ e ∷ []) new
 stamps-more entries e old new more are = λ g member.
     more g member

@@ -1,5 +1,6 @@
 -- What there is to say of a group, and what would end its waiting.
 use Rattle.std.specs.Prelude.{◌≡◌, ℕ, ◌+◌, ◌-◌, ◌^◌, ◌==◌, List, [], ◌∷◌, ◌++◌, Bool, true, false, not, nat_eq, nat_le, min, length, take, map, filter, flat_map, Option, Some, None, All, string_bytes, if◌then◌else◌}
+use Rattle.pgp_ids.specs.Incremental.{no_change}
 use Rattle.pgp_ids.specs.declared.entry.Entry.{Entry}
 use Rattle.pgp_ids.specs.declared.entry.Entry.TheVariants as entry
 use Rattle.pgp_ids.specs.declared.incremental.DeviceEpoch.{DeviceEpoch}
@@ -32,21 +33,7 @@ next_epoch epoch = min (epoch + 1) (2 ^ 32 - 1)
 
 -- the incremental to this epoch that says which devices boot and which are lost, and leaves everything else as it is
 abbrev pub telling_inc : ℕ → (up : List ℕ) → (lost : List DeviceEpoch) → Incremental
-telling_inc epoch up lost =
-    record {
-      after = epoch - 1;
-      epoch = epoch;
-      up = up;
-      down = [];
-      gone = [];
-      weight = [];
-      up_thru = [];
-      lost = lost;
-      pools = [];
-      sizes = [];
-      temp = [];
-      crush = None;
-    }
+telling_inc epoch up lost = record (no_change (epoch - 1) epoch) { up = up; lost = lost }
 
 -- the one that boots these devices and declares those lost
 abbrev pub way_inc : ℕ → (starts losses : List ℕ) → Incremental

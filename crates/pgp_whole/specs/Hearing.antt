@@ -27,15 +27,15 @@ hears g member (entry.Entries report) = false
 hears g member entry.Close = false
 
 -- a group, and a member that sent infos to it
-abbrev pub sender_of : PgId → Member → Sender
-sender_of pg member = record { pg = pg; osd = member.osd; slot = member.slot }
+abbrev pub source_of : PgId → Member → Sender
+source_of pg member = record { pg = pg; osd = member.osd; slot = member.slot }
 
 -- the group and the member are the same
-abbrev pub is_same_sender : Sender → Sender → Bool
-is_same_sender a b = is_same_group a.pg b.pg && (nat_eq a.osd b.osd && nat_eq a.slot b.slot)
+abbrev pub is_same_source : Sender → Sender → Bool
+is_same_source a b = is_same_group a.pg b.pg && (nat_eq a.osd b.osd && nat_eq a.slot b.slot)
 
 -- what is kept of the infos among the entries: a group hears a member by one of them just where the stamp counts that is kept
 abbrev pub AreStamps : {S : Type 0} → List Entry → HashMap Sender ℕ S → Type 0
 AreStamps entries stamps =
     (g : GroupLog) (member : Member)
-    → option_map_or (is_counted g member) (hash.get is_same_sender stamps (sender_of g.pg member)) false ≡ list_any (hears g member) entries
+    → option_map_or (is_counted g member) (hash.get is_same_source stamps (source_of g.pg member)) false ≡ list_any (hears g member) entries

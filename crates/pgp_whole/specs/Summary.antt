@@ -15,7 +15,7 @@ use Rattle.pgp_group.specs.Entries.{incs_of}
 use Rattle.pgp_group.specs.GroupLog.{GroupLog, group_in}
 use Rattle.pgp_group.specs.Heard.{has_member, heard}
 use Rattle.pgp_group.specs.Peering.{prior}
-use Rattle.pgp_group.specs.Verdict.{place_of, verdict}
+use Rattle.pgp_group.specs.Verdict.{verdict_place, verdict}
 use Rattle.pgp_reasons.specs.GroupWays.{brings_back}
 use Rattle.pgp_reasons.specs.Smallest.{holds}
 use Rattle.pgp_whole.specs.Pools.{pool_facts}
@@ -52,7 +52,7 @@ group_logs log = filter_map (group_in log) (all_groups (incs_of log))
 
 -- the two are the same
 abbrev pub is_verdict : Verdict → Verdict → Bool
-is_verdict other verdict = nat_eq (place_of verdict) (place_of other)
+is_verdict other verdict = nat_eq (verdict_place verdict) (verdict_place other)
 
 -- this is the group's verdict
 abbrev pub has_verdict : Verdict → GroupLog → Bool

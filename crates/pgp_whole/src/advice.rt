@@ -172,20 +172,10 @@ fn inc_of(
 ) -> Incremental
     ensures { result ≡ telling_inc epoch booted given_up }
 {
-    Incremental {
-        after: epoch.before(),
-        epoch,
-        up: booted,
-        down: Seq::new(alloc),
-        gone: Seq::new(alloc),
-        weight: Seq::new(alloc),
-        up_thru: Seq::new(alloc),
-        lost: given_up,
-        pools: Seq::new(alloc),
-        sizes: Seq::new(alloc),
-        temp: Seq::new(alloc),
-        crush: None,
-    }
+    let mut inc = Incremental::empty(alloc, epoch.before(), epoch);
+    inc.up = booted;
+    inc.lost = given_up;
+    inc
 }
 
 /// The devices, each lost at this epoch.

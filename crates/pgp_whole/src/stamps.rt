@@ -4,7 +4,7 @@ ghost use Rattle.std.specs.Prelude.{◌≡◌, ◌++◌, [], ◌∷◌, List, ma
 ghost use Rattle.std.specs.Option.{option_copied, option_map_or};
 ghost use Rattle.std.specs.Arc.{arc_value};
 ghost use Rattle.pgp_ids.specs.declared.entry.Entry.{Entry as AnyEntry};
-ghost use Rattle.pgp_whole.specs.Hearing.{AreStamps, sender_of};
+ghost use Rattle.pgp_whole.specs.Hearing.{AreStamps, source_of};
 
 use pgp_ids::{Entry, Epoch, Info, Member, OsdId, PgId};
 use std::alloc::{AllocError, Global};
@@ -24,7 +24,7 @@ pub(crate) struct Sender {
 
 impl Sender {
     pub fn new(pg: &PgId, member: &Member) -> Self
-        ensures { result ≡ sender_of pg.now member.now }
+        ensures { result ≡ source_of pg.now member.now }
     {
         Sender {
             pg: *pg,

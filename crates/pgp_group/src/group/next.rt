@@ -9,7 +9,7 @@ ghost use Rattle.pgp_interval.specs.SameMembers.{is_same};
 ghost use Rattle.pgp_map.specs.Held.{HasGroup};
 ghost use Rattle.pgp_map.specs.Map.{epoch as epoch_of};
 ghost use Rattle.pgp_map.specs.MapFault.{map_fault, then_with};
-ghost use Rattle.pgp_map.specs.MapOf.{IsMapOf};
+ghost use Rattle.pgp_map.specs.MapOf.{IsMapOf, Says};
 ghost use Rattle.pgp_map.specs.Pools.{pool, has_group};
 ghost use Rattle.pgp_sets.specs.Sets.{membership};
 ghost use Rattle.pgp_group.specs.Entries.{incs_of};
@@ -102,8 +102,7 @@ impl Group {
 /// The kind of the group's pool.
 fn kind_of(map: &OsdMap, pg: &PgId) -> PoolKind
     requires { HasGroup map.now pg.now }
-    ensures { (incs : List Incremental) → IsMapOf incs map.now
-        → option_map (λ made. made.kind) (pool incs pg.now.pool) ≡ Some result }
+    ensures { Says map.now (λ incs. option_map (λ made. made.kind) (pool incs pg.now.pool) ≡ Some result) }
 {
     map.pool(pg.pool).unwrap().kind
 }

@@ -17,7 +17,7 @@ ghost use Rattle.pgp_group.specs.GroupLog.{group_in};
 ghost use Rattle.pgp_group.specs.Heard.{les, heard};
 ghost use Rattle.pgp_group.specs.Peering.{past};
 ghost use Rattle.pgp_group.specs.View.{scratch};
-ghost use Rattle.pgp_group.specs.Examples.{in_slot, at, on_three, known_up, give_up, was, maps, unrecorded, two_shards_down, two_parts_on_three, second_part_down, copy, copy_up_to, shard, infos_sent, entries_of, entries_of_first, three_writes, peer};
+ghost use Rattle.pgp_group.specs.Examples.{in_slot, at, on_three, known_up, give_up, was, maps, unrecorded, two_shards_down, two_parts_on_three, second_part_down, copy, copy_up_to, shard, infos_sent, entries_report, entries_of_first, three_writes, peer};
 
 /// A group is short of members where acting has fewer than min_size, or where their slots aren't enough for the code.
 pub fn short_groups()
@@ -64,7 +64,7 @@ pub fn heard_device_goes_down()
 pub fn entries_that_play_no_part()
     ensures of_another_member { let log = maps (copies_on_three ∷ [])
         ++ infos_sent (copy_up_to 0 (at 1 3) ∷ copy 1 1 ∷ copy 2 1 ∷ [])
-        ++ entries_of copies_group (in_slot 1 0) three_writes ∷ [] in
+        ++ entries_report copies_group (in_slot 1 0) three_writes ∷ [] in
         option_map (λ view. view.verdict) (scratch log copies_group) ≡ Some the.NeedLog }
     ensures not_counted { let first = record (copy 0 2) { last_update = at 1 3 } in
         let log = maps (copies_on_three ∷ resize 2 3 1 ∷ [])
@@ -98,7 +98,7 @@ pub fn reports_of_another_group()
         option_map les (group_in (maps (copies_on_three ∷ []) ++ infos_sent (other ∷ [])) copies_group) ≡ Some 0 }
     ensures entries { let log = maps (copies_on_three ∷ [])
         ++ infos_sent (copy_up_to 0 (at 1 3) ∷ copy 1 1 ∷ copy 2 1 ∷ [])
-        ++ entries_of (record copies_group { pg = 1 }) (in_slot 0 0) three_writes ∷ [] in
+        ++ entries_report (record copies_group { pg = 1 }) (in_slot 0 0) three_writes ∷ [] in
         option_map (λ view. view.verdict) (scratch log copies_group) ≡ Some the.NeedLog }
 {}
 

@@ -9,7 +9,7 @@ ghost use Rattle.pgp_map.specs.Examples.{empty_step, boot};
 ghost use Rattle.pgp_map.specs.Map.{epoch};
 ghost use Rattle.pgp_sets.specs.Examples.{of_weight, copies_group, shards_group, stands_on, copies_placed, copies_on_three, take_down, resize};
 ghost use Rattle.pgp_group.specs.Entries.{incs_of};
-ghost use Rattle.pgp_group.specs.Examples.{in_slot, maps, known_up, give_up, two_shards_down, copy, infos_sent, entries_of, three_writes, until_serving};
+ghost use Rattle.pgp_group.specs.Examples.{in_slot, maps, known_up, give_up, two_shards_down, copy, infos_sent, entries_report, three_writes, until_serving};
 ghost use Rattle.pgp_group.specs.Touched.{is_touched, view_at};
 ghost use Rattle.pgp_group.specs.View.{scratch};
 
@@ -34,7 +34,7 @@ pub fn groups_that_an_entry_leaves()
     ensures temp { let given = record (empty_step 2) { temp = stands_on copies_group (Some 1 ∷ []) } in
         is_touched (maps (copies_on_three ∷ [])) (entry.Inc given) (record copies_group { pg = 1 }) ≡ false }
     ensures report { is_touched (maps (copies_on_three ∷ [])) (entry.Info (copy 0 1)) shards_group ≡ false }
-    ensures entries { let told = entries_of copies_group (in_slot 0 0) three_writes in
+    ensures entries { let told = entries_report copies_group (in_slot 0 0) three_writes in
         is_touched (maps (copies_on_three ∷ [])) told (record copies_group { pg = 1 }) ≡ false }
     ensures close { is_touched until_serving entry.Close copies_group ≡ false }
 {}
@@ -51,7 +51,7 @@ pub fn groups_that_an_entry_touches()
     ensures tree { let inc = record (empty_step 4) { crush = copies_on_three.crush } in
         is_touched (maps two_shards_down) (entry.Inc inc) shards_group ≡ true }
     ensures report { is_touched (maps (copies_on_three ∷ [])) (entry.Info (copy 0 1)) copies_group ≡ true }
-    ensures entries { let told = entries_of copies_group (in_slot 0 0) three_writes in
+    ensures entries { let told = entries_report copies_group (in_slot 0 0) three_writes in
         is_touched (maps (copies_on_three ∷ [])) told copies_group ≡ true }
 {}
 
@@ -70,6 +70,6 @@ pub fn groups_that_a_device_touches()
         is_touched (maps (placed ∷ moved ∷ [])) (entry.Inc (take_down 3 (0 ∷ []))) copies_group ≡ true }
     ensures sent_an_info { let log = maps (copies_placed ∷ []) ++ infos_sent (copy 1 1 ∷ []) in
         is_touched log (entry.Inc (take_down 2 (1 ∷ []))) copies_group ≡ true }
-    ensures sent_entries { let log = maps (copies_placed ∷ []) ++ entries_of copies_group (in_slot 1 0) three_writes ∷ [] in
+    ensures sent_entries { let log = maps (copies_placed ∷ []) ++ entries_report copies_group (in_slot 1 0) three_writes ∷ [] in
         is_touched log (entry.Inc (take_down 2 (1 ∷ []))) copies_group ≡ true }
 {}

@@ -2,8 +2,8 @@
 ghost use Rattle.std.specs.Prelude.{◌≡◌, map, IfOk, codes};
 ghost use Rattle.pgp_lines.specs.Value.{view};
 ghost use Rattle.pgp_lines.specs.Shapes.{field};
-ghost use Rattle.pgp_lines.specs.MadeBucket.{bucket_of};
-ghost use Rattle.pgp_lines.specs.Buckets.{bucket_id_in, bucket_item_in, alg_in, bucket_keys, alg_of, head_in, weights_in, bucket_in};
+ghost use Rattle.pgp_lines.specs.MadeBucket.{bucket_from};
+ghost use Rattle.pgp_lines.specs.Buckets.{bucket_id_in, bucket_item_in, alg_in, bucket_keys, bucket_alg_in, head_in, weights_in, bucket_in};
 
 use super::fields::{read_at, read_field};
 use super::lists::{Plain, Shape};
@@ -115,7 +115,7 @@ fn bucket_of(
     items: Seq<i32>,
     weights: Seq<u32>,
 ) -> Option<BucketSpec>
-    ensures { result ≡ bucket_of id kind alg items weights }
+    ensures { result ≡ bucket_from id kind alg items weights }
 {
     let wanted = match alg {
         BucketAlg::Uniform => 0,

@@ -2,7 +2,7 @@
 ghost use Rattle.std.specs.Prelude.{◌≡◌};
 ghost use Rattle.pgp_lines.specs.Value.{view};
 ghost use Rattle.pgp_lines.specs.LineFault.{IsRead};
-ghost use Rattle.pgp_lines.specs.Format.{format_number, format_of, read_in, judged, has_kind, has_alg, has_after, has_pools, has_tree, judged_at};
+ghost use Rattle.pgp_lines.specs.Format.{format_number, format_of, read_in, judged, has_pool_kind, has_alg, has_after, has_pools, has_tree, judged_at};
 ghost use Rattle.std.specs.List.{list_all};
 
 use super::fields::or_bad_field;
@@ -84,7 +84,7 @@ impl Format {
 
     /// Whether it has pools, and codes of traces, of this kind.
     pub(super) fn has_kind(self, kind: &PoolKind) -> bool
-        ensures { result ≡ has_kind self kind.now }
+        ensures { result ≡ has_pool_kind self kind.now }
     {
         match kind {
             PoolKind::Replicated | PoolKind::Erasure { .. } => true,

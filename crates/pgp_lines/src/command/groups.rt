@@ -1,7 +1,7 @@
 //! The parts of a grouped pool.
 ghost use Rattle.std.specs.Prelude.{◌≡◌, ◌<◌, option_map, IfSome};
 ghost use Rattle.pgp_lines.specs.Value.{view};
-ghost use Rattle.pgp_lines.specs.Groups.{slot_in, slots_in, part_of, part_in, groups_in};
+ghost use Rattle.pgp_lines.specs.Groups.{slot_in, slots_in, part_from, part_in, groups_in};
 
 use super::lists::{Plain, read_pair};
 use super::numbers::read_number;
@@ -44,7 +44,7 @@ fn read_part(value: &Value<'_, '_>) -> Option<Part>
 
 /// The part of a list of at most 16 slots.
 fn part_of(list: &Value<'_, '_>, least: u8) -> Option<Part>
-    ensures { result ≡ option_map (part_of least) (slots_in (view list.now)) }
+    ensures { result ≡ option_map (part_from least) (slots_in (view list.now)) }
 {
     let mut items = list.items()?;
     let mut slots = [0; MAX_SLOTS];

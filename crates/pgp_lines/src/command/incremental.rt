@@ -1,8 +1,8 @@
 //! The line of a map incremental.
 ghost use Rattle.std.specs.Prelude.{◌≡◌};
 ghost use Rattle.pgp_lines.specs.Value.{view};
-ghost use Rattle.pgp_lines.specs.LineFault.{IsRead, IsPut};
-ghost use Rattle.pgp_lines.specs.Incremental.{no_change, with_down, with_pools, with_up, inc_of};
+ghost use Rattle.pgp_lines.specs.LineFault.{IsRead, PutsRead};
+ghost use Rattle.pgp_lines.specs.Incremental.{with_down, with_pools, with_up, inc_of_line};
 
 use super::fields::{read_optional, read_required};
 use super::format::{Format, judge_at, judge_format, read_in};
@@ -18,35 +18,15 @@ pub(super) fn read_inc(
     last: Format,
     format: Option<Format>,
 ) -> Result<Incremental, TextFault>
-    ensures { IsRead result (inc_of last format (view value.now)) }
+    ensures { IsRead result (inc_of_line last format (view value.now)) }
 {
     let read_as = read_in(last, format);
-    let mut inc = no_change(alloc);
+    let mut inc = Incremental::empty(alloc, Epoch::new(0), Epoch::new(0));
     let after = read_optional(alloc, value, "after", None)?;
     put_down(alloc, value, read_as, after, &mut inc)?;
     put_pools(alloc, value, read_as, &mut inc)?;
     put_up(alloc, value, format, &mut inc)?;
     Ok(inc)
-}
-
-/// An incremental that changes nothing.
-fn no_change(alloc: Global) -> Incremental
-    ensures { result ≡ no_change }
-{
-    Incremental {
-        after: Epoch::new(0),
-        epoch: Epoch::new(0),
-        up: Seq::new(alloc),
-        down: Seq::new(alloc),
-        gone: Seq::new(alloc),
-        weight: Seq::new(alloc),
-        up_thru: Seq::new(alloc),
-        lost: Seq::new(alloc),
-        pools: Seq::new(alloc),
-        sizes: Seq::new(alloc),
-        temp: Seq::new(alloc),
-        crush: None,
-    }
 }
 
 /// Puts in the tree, the epochs and the devices that go, in a line of this version. Where it names no map that it changes,
@@ -58,7 +38,7 @@ fn put_down(
     after: Option<Epoch>,
     inc: &mut Incremental,
 ) -> Result<(), TextFault>
-    ensures { IsPut result (with_down format after inc.old (view value.now)) inc.new }
+    ensures { PutsRead result (with_down format after inc.old (view value.now)) inc.new }
 {
     inc.crush = read_optional(alloc, value, "crush", None)?;
     judge_at(alloc, value, "crush", format.has_tree(&inc.crush))?;
@@ -77,7 +57,7 @@ fn put_pools(
     format: Format,
     inc: &mut Incremental,
 ) -> Result<(), TextFault>
-    ensures { IsPut result (with_pools format inc.old (view value.now)) inc.new }
+    ensures { PutsRead result (with_pools format inc.old (view value.now)) inc.new }
 {
     inc.pools = read_optional(alloc, value, "pools", Seq::new(alloc))?;
     judge_at(
@@ -98,7 +78,7 @@ fn put_up(
     format: Option<Format>,
     inc: &mut Incremental,
 ) -> Result<(), TextFault>
-    ensures { IsPut result (with_up format inc.old (view value.now)) inc.new }
+    ensures { PutsRead result (with_up format inc.old (view value.now)) inc.new }
 {
     inc.up = read_optional(alloc, value, "up", Seq::new(alloc))?;
     inc.up_thru = read_optional(alloc, value, "up_thru", Seq::new(alloc))?;

@@ -2,7 +2,7 @@
 ghost use Rattle.std.specs.Prelude.{◌≡◌, ◌≤◌, ◌≤ℤ◌, true, IfSome};
 ghost use Rattle.pgp_lines.specs.Value.{view};
 ghost use Rattle.pgp_lines.specs.Shapes.{number_in, integer_in};
-ghost use Rattle.pgp_lines.specs.Ids.{osd_in, place_in, pool_id_in, byte_in, word_in, group_in};
+ghost use Rattle.pgp_lines.specs.Ids.{osd_in, place_in, pool_id_in, byte_in, word_in, pg_id_in};
 
 use super::lists::Plain;
 use super::trail::Wanted;
@@ -74,7 +74,7 @@ impl Plain for PoolId {
 
 /// A group by its pool and its number in the pool, 0 to 1023.
 pub(super) fn read_group(pool: &Value<'_, '_>, pg: &Value<'_, '_>) -> Option<PgId>
-    ensures { result ≡ group_in (view pool.now) (view pg.now) }
+    ensures { result ≡ pg_id_in (view pool.now) (view pg.now) }
 {
     let pool = PoolId::from_value(pool)?;
     let pg = read_number(pg, 0, MAX_PG)?;

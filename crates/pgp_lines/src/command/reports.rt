@@ -5,7 +5,7 @@ ghost use Rattle.pgp_lines.specs.Value.{view};
 ghost use Rattle.pgp_lines.specs.LineFault.{IsRead};
 ghost use Rattle.pgp_lines.specs.Shapes.{required};
 ghost use Rattle.pgp_lines.specs.ReportParts.{name_in, change_in, log_entry_in, log_in};
-ghost use Rattle.pgp_lines.specs.Reports.{info_of, entries_of, locate_of};
+ghost use Rattle.pgp_lines.specs.Reports.{info_of_line, entries_of_line, locate_of_line};
 
 use super::fields::{or_bad_field, read_optional, read_required};
 use super::format::{Format, judge_format};
@@ -21,7 +21,7 @@ pub(super) fn read_info(
     value: &Value<'_, '_>,
     format: Option<Format>,
 ) -> Result<Info, TextFault>
-    ensures { IsRead result (info_of format (view value.now)) }
+    ensures { IsRead result (info_of_line format (view value.now)) }
 {
     let complete = read_required(alloc, value, "complete")?;
     let member = read_required(alloc, value, "from")?;
@@ -79,7 +79,7 @@ pub(super) fn read_entries(
     value: &Value<'_, '_>,
     format: Option<Format>,
 ) -> Result<Report, TextFault>
-    ensures { IsRead result (entries_of format (view value.now)) }
+    ensures { IsRead result (entries_of_line format (view value.now)) }
 {
     let member = read_required(alloc, value, "from")?;
     let log = read_log(alloc, value)?;
@@ -135,7 +135,7 @@ pub(super) fn read_locate(
     value: &Value<'_, '_>,
     format: Option<Format>,
 ) -> Result<(PoolId, ObjectName), TextFault>
-    ensures { IsRead result (locate_of format (view value.now)) }
+    ensures { IsRead result (locate_of_line format (view value.now)) }
 {
     let name = read_required(alloc, value, "name")?;
     let pool = read_required(alloc, value, "pool")?;

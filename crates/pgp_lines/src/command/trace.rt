@@ -2,7 +2,7 @@
 ghost use Rattle.std.specs.Prelude.{◌≡◌, map, codes, IfOk};
 ghost use Rattle.pgp_lines.specs.Value.{view};
 ghost use Rattle.pgp_lines.specs.LineFault.{IsRead};
-ghost use Rattle.pgp_lines.specs.Command.{trace_of};
+ghost use Rattle.pgp_lines.specs.Command.{trace_of_line};
 ghost use Rattle.pgp_lines.specs.Shapes.{field};
 ghost use Rattle.pgp_lines.specs.Trace.{code_keys, is_code, code_in, osds_in, epoch_state_in, epochs_in};
 
@@ -32,7 +32,7 @@ pub(super) fn read_trace(
     last: Format,
     format: Option<Format>,
 ) -> Result<Command, TextFault>
-    ensures { IsRead result (trace_of last format (view value.now)) }
+    ensures { IsRead result (trace_of_line last format (view value.now)) }
 {
     let found = read_code(value, read_in(last, format));
     let code = or_bad_field(alloc, found, "code")?;

@@ -7,7 +7,7 @@ ghost use Rattle.pgp_lines.specs.LineFault.{unknown_key, bad_field};
 ghost use Rattle.pgp_lines.specs.Command.{command_of};
 ghost use Rattle.pgp_lines.specs.declared.command.format.Format.TheVariants.{Two, Three};
 ghost use Rattle.pgp_lines.specs.declared.command.Command.TheVariants.{Submit};
-ghost use Rattle.pgp_lines.specs.WorkedLines.{part_of, inc_with, pool_line, grouped_with, made_of_parts, root_line, straw2_bucket, straw2_command, inc_of_three, empty_inc};
+ghost use Rattle.pgp_lines.specs.WorkedLines.{worked_part, inc_with, pool_line, grouped_with, made_of_parts, root_line, straw2_bucket, straw2_command, inc_of_three, empty_inc};
 
 /// Version 3 has straw2 buckets, with a weight for each item.
 pub fn straw2_trees()
@@ -32,7 +32,7 @@ pub fn straw2_in_other_versions()
 pub fn lines_of_version_3()
     ensures close { command_of Three (codes "{\"op\":\"close\",\"v\":3}") ≡ Ok (Submit Close) }
     ensures grouped { command_of Three (pool_line (codes "\"v\":3,") (grouped_with (codes "[[[0],1]]")))
-        ≡ Ok (made_of_parts (part_of (0 ∷ []) 1 ∷ replicate 15 None)) }
+        ≡ Ok (made_of_parts (worked_part (0 ∷ []) 1 ∷ replicate 15 None)) }
     ensures other_key { command_of Three (inc_with (codes "\"v\":3,\"before\":0")) ≡ Err (unknown_key (codes "before")) }
 {}
 

@@ -7,27 +7,27 @@ ghost use Rattle.pgp_ids.specs.declared.pool.PoolKind.TheVariants.{Grouped};
 ghost use Rattle.pgp_lines.specs.LineFault.{unknown_key, bad_field};
 ghost use Rattle.pgp_lines.specs.Command.{command_of};
 ghost use Rattle.pgp_lines.specs.declared.command.format.Format.TheVariants.{Two};
-ghost use Rattle.pgp_lines.specs.WorkedLines.{AreBad, close_of, part_of, pair_and_one, trace_with, grouped_trace_line, grouped_trace, inc_with, empty_inc, grouped_pool_line, coded_command, pool_line, grouped_with, parts_line, made_of_parts, info_with, first_info};
+ghost use Rattle.pgp_lines.specs.WorkedLines.{AreBad, close_of, worked_part, pair_and_single, trace_with, grouped_trace_line, grouped_trace, inc_with, empty_inc, grouped_pool_line, coded_command, pool_line, grouped_with, parts_line, made_of_parts, info_with, first_info};
 ghost use Rattle.pgp_lines.specs.declared.command.Command.TheVariants.{Submit, Ask, Locate};
 
 /// A grouped pool, in the first map of a cluster.
 pub fn grouped_pool()
-    ensures { command_of Two grouped_pool_line ≡ Ok (coded_command (Grouped pair_and_one)) }
+    ensures { command_of Two grouped_pool_line ≡ Ok (coded_command (Grouped pair_and_single)) }
 {}
 
 /// The slots of a part may come in any order, and parts have the places in which they come. That a slot comes twice, that a
 /// part has none, that there is no part, and a least number that no part can have are left to the map.
 pub fn parts_of_pools()
     ensures any_order { command_of Two (parts_line (codes "[[[2],1],[[1,0],2]]"))
-        ≡ Ok (made_of_parts (part_of (2 ∷ []) 1 ∷ part_of (0 ∷ 1 ∷ []) 2 ∷ replicate 14 None)) }
+        ≡ Ok (made_of_parts (worked_part (2 ∷ []) 1 ∷ worked_part (0 ∷ 1 ∷ []) 2 ∷ replicate 14 None)) }
     ensures last_slot { command_of Two (parts_line (codes "[[[15],255]]"))
-        ≡ Ok (made_of_parts (part_of (15 ∷ []) 255 ∷ replicate 15 None)) }
+        ≡ Ok (made_of_parts (worked_part (15 ∷ []) 255 ∷ replicate 15 None)) }
     ensures slot_twice { command_of Two (parts_line (codes "[[[3,3],1]]"))
         ≡ Ok (made_of_parts (Some (record { slots = 3 ∷ []; least = 1; twice = true }) ∷ replicate 15 None)) }
     ensures shared_slot { command_of Two (parts_line (codes "[[[0],1],[[0],1]]"))
-        ≡ Ok (made_of_parts (part_of (0 ∷ []) 1 ∷ part_of (0 ∷ []) 1 ∷ replicate 14 None)) }
+        ≡ Ok (made_of_parts (worked_part (0 ∷ []) 1 ∷ worked_part (0 ∷ []) 1 ∷ replicate 14 None)) }
     ensures no_slot { command_of Two (parts_line (codes "[[[],0]]"))
-        ≡ Ok (made_of_parts (part_of [] 0 ∷ replicate 15 None)) }
+        ≡ Ok (made_of_parts (worked_part [] 0 ∷ replicate 15 None)) }
     ensures no_part { command_of Two (parts_line (codes "[]")) ≡ Ok (made_of_parts (replicate 16 None)) }
 {}
 
@@ -56,9 +56,9 @@ pub fn grouped_in_version_1()
 
 /// Traces by a grouped code, in which a place may be empty.
 pub fn grouped_traces()
-    ensures two_parts { command_of Two (grouped_trace_line (codes "[[[0,1],1],[[2],1]]")) ≡ Ok (grouped_trace pair_and_one) }
+    ensures two_parts { command_of Two (grouped_trace_line (codes "[[[0,1],1],[[2],1]]")) ≡ Ok (grouped_trace pair_and_single) }
     ensures last_slot { command_of Two (grouped_trace_line (codes "[[[15,14],2]]"))
-        ≡ Ok (grouped_trace (part_of (14 ∷ 15 ∷ []) 2 ∷ replicate 15 None)) }
+        ≡ Ok (grouped_trace (worked_part (14 ∷ 15 ∷ []) 2 ∷ replicate 15 None)) }
 {}
 
 /// What is no grouped code of a trace: here it is also bad that a slot comes twice, in one part or in two, that there is no

@@ -1,5 +1,5 @@
 use Rattle.pgp_group.proofs.Common.{◌≡◌, ◌+◌, ◌++◌, [], ◌∷◌, List, None, ap, ap₂, map, sym, take, ◌∙◌, if◌then◌else◌, option_copied, map_push, is_same_member, Member, PeerMissing, Info, peer_state, others_heard}
-use Rattle.pgp_group.specs.Peering.{info_of}
+use Rattle.pgp_group.specs.Peering.{info_from}
 use Rattle.pgp_group.proofs.PeerLemmas.{others-one, others-none}
 use Rattle.pgp_group.proofs.peers.states.Goals as goal
 use Rattle.pgp_group.proofs.peers.states.Goals.{in-Some+in_ok-state_of-in-Some+in_ok-push-in-Some, in-None}
@@ -13,8 +13,8 @@ loop-member-preserved c = λ info reported is same.
     let state : Info → PeerMissing = λ peer. record { member = peer.member; state = peer_state info reported peer } in
     let so_far : List Info = others_heard (take i all) kept info in
     let before : c.loop-member.states.items ≡ map state so_far = c.loop-member.invariant info reported is same in
-    let found : option_copied c.other.result ≡ (if is_same_member x info.member then None else info_of kept x) =
-    c.other.ensures ∙ ap (λ (m : Member). if is_same_member x m then None else info_of kept x) (sym same) in
+    let found : option_copied c.other.result ≡ (if is_same_member x info.member then None else info_from kept x) =
+    c.other.ensures ∙ ap (λ (m : Member). if is_same_member x m then None else info_from kept x) (sym same) in
     elim c.match-other.branch [
       | in-Some+in_ok-state_of-in-Some+in_ok-push-in-Some w ↦
           let peer = w.in-Some.peer.now in

@@ -2,12 +2,12 @@ use Rattle.std.proofs.Common.{◌≡◌, ℕ, ◌≤◌, List, length, true, ari
 use Rattle.std.proofs.lemmas.Grind.{common_steps}
 use Rattle.std.specs.Cmp.{unsigned_Decides}
 use Rattle.std.proofs.lemmas.Slice.Eq.{slice_eq-Decides}
-use Rattle.pgp_map.specs.WeightTable.{is_whole, weight_in}
+use Rattle.pgp_map.specs.WeightTable.{is_full_weight, weight_in}
 use Rattle.pgp_map.proofs.AlikeLemmas.{weights_Decides}
 use Rattle.pgp_map.proofs.alike.are_weights_alike.Goals as goal
 
 -- a table says of a number that no device has that it is fully in
-beyond : (table : List ℕ) → is_whole (length table) ≡ true → (q : ℕ) → 4096 ≤ q → weight_in table q ≡ 65536
+beyond : (table : List ℕ) → is_full_weight (length table) ≡ true → (q : ℕ) → 4096 ≤ q → weight_in table q ≡ 65536
 beyond table whole q above = grind (arith, common_steps)
 
 pub returns : goal.returns

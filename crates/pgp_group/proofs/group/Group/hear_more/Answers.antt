@@ -1,4 +1,4 @@
-use Rattle.pgp_group.proofs.Common.{◌≡◌, Some, ap, refl, subst, sym, ◌∙◌, option_copied, Info, IsLogOf, GroupLog, reports, Keeps, reported, AreLogsOf, log_of, best, IsPresent, arith}
+use Rattle.pgp_group.proofs.Common.{◌≡◌, Some, ap, refl, subst, sym, ◌∙◌, option_copied, Info, IsLogOf, GroupLog, reports, Keeps, reported, AreLogsOf, member_log, best, IsPresent, arith}
 use Rattle.pgp_group.proofs.PartLemmas.{heard-is}
 use Rattle.pgp_group.proofs.ReportsLemmas.{AreLogsOf-renewed, KeepsReports-renewed}
 use Rattle.pgp_group.proofs.group.Group.hear_more.Goals as goal
@@ -18,7 +18,7 @@ returns-in-Some-clause-logs c = λ g keeps here current.
       each = AreLogsOf-renewed g (reports g) c.look-2.new.self.logs.of_members.items c.renew.new.self.of_members.items c.renew.ensures.entries all;
       best_by_info = λ info log best_is found.
           let same : c.in-Some.best.now ≡ info = let both : Some c.in-Some.best.now ≡ Some info = sym first ∙ best_is in cc in
-          subst (λ (i : Info). log_of i.member c.renew.new.self.of_members.items ≡ Some log → IsLogOf i (reported g i.member) log.log) same
+          subst (λ (i : Info). member_log i.member c.renew.new.self.of_members.items ≡ Some log → IsLogOf i (reported g i.member) log.log) same
           (λ there. c.renew.ensures.bounds log (reported g c.in-Some.best.now.member) (all c.in-Some.best.now.member) there) found;
     }
 

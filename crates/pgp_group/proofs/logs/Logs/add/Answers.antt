@@ -1,4 +1,4 @@
-use Rattle.pgp_group.proofs.Common.{◌≡◌, List, [], ◌++◌, true, if◌then◌else◌, ap, ap₂, subst, sym, ◌∙◌, All-set, position-Some, on_ok_weaker, is_same_member, by_number, is_of, entries_of, CountedLog}
+use Rattle.pgp_group.proofs.Common.{◌≡◌, List, [], ◌++◌, true, if◌then◌else◌, ap, ap₂, subst, sym, ◌∙◌, All-set, position-Some, on_ok_weaker, is_same_member, by_number, is_of, member_entries, CountedLog}
 use Rattle.pgp_group.proofs.ReportsLemmas.{added, added-first}
 use Rattle.pgp_group.proofs.PeerLemmas.{same_member}
 use Rattle.pgp_group.proofs.logs.Logs.add.Goals as goal
@@ -32,5 +32,5 @@ returns-in_ok-push-in-None-clause-logs c = λ member reported is.
     let report = c.args.report.now in
     let first = c.in_ok-of_first-in-None.field-0 in
     let of = c.in_ok-of_first-in-None.ensures in
-    subst (λ (l : List CountedLog). entries_of member l ≡ by_number (reported ++ (if is_same_member report.member member then report.log else []))) (sym c.in_ok-push-in-None.ensures.items)
+    subst (λ (l : List CountedLog). member_entries member l ≡ by_number (reported ++ (if is_same_member report.member member then report.log else []))) (sym c.in_ok-push-in-None.ensures.items)
     (added-first report.member member logs first report.log reported (sym c.place_of.ensures ∙ c.in-None.is) of.member of.log is)

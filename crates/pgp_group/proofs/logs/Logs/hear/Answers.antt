@@ -1,4 +1,4 @@
-use Rattle.pgp_group.proofs.Common.{◌≡◌, ℕ, ◌+◌, List, [], ◌∷◌, ◌++◌, true, ◌&&◌, nat_le, refl, ap, subst, sym, take, ◌∙◌, arith, All, nat_tests, Member, Report, by_number, is_counted, counts_by, entries_of, reported_in, AreLogsOf, CountedLog}
+use Rattle.pgp_group.proofs.Common.{◌≡◌, ℕ, ◌+◌, List, [], ◌∷◌, ◌++◌, true, ◌&&◌, nat_le, refl, ap, subst, sym, take, ◌∙◌, arith, All, nat_tests, Member, Report, by_number, is_counted, counts_by, member_entries, reported_in, AreLogsOf, CountedLog}
 use Rattle.pgp_group.proofs.Lists.{append-next}
 use Rattle.pgp_group.proofs.ReportsLemmas.{told-counted, told-other}
 use Rattle.pgp_group.proofs.logs.Logs.hear.Goals as goal
@@ -13,7 +13,7 @@ loop-report-preserved c =
     record {
       logs = λ g before here is member.
           let so_far : AreLogsOf g (before ++ take i all) c.loop-report.self.of_members.items = c.loop-report.invariant.logs g before here is in
-          subst (λ (told : List Report). entries_of member c.if-is_counted.self.of_members.items ≡ by_number (reported_in g told member)) (sym (next before))
+          subst (λ (told : List Report). member_entries member c.if-is_counted.self.of_members.items ≡ by_number (reported_in g told member)) (sym (next before))
           (elim c.if-is_counted.branch [
             | then-is_counted+in_ok-add w ↦
                 rw w.self-is

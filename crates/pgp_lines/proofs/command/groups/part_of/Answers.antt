@@ -3,7 +3,7 @@ use Rattle.std.proofs.Math.Seq.{set-append_seam, take-append_seam}
 use Rattle.std.proofs.lemmas.List.Elements.{All-append}
 use Rattle.pgp_ids.specs.Parts.{set_of, has_twice}
 use Rattle.pgp_ids.specs.declared.part.Part.{Part}
-use Rattle.pgp_lines.specs.Groups.{slot_in, slots_in, part_of}
+use Rattle.pgp_lines.specs.Groups.{slot_in, slots_in, part_from}
 use Rattle.pgp_lines.specs.Value.{view, items_left}
 use Rattle.pgp_lines.proofs.Walks.{list_after, list_after-next, list_after-end}
 use Rattle.pgp_lines.proofs.command.groups.part_of.Goals as goal
@@ -17,7 +17,7 @@ next_slot found (y ∷ ys) slots count slot ends room below is =
     (ys, omega (arith, room), here ∙ set-append_seam found y ys slot ∙ sym (append_assoc found (slot ∷ []) ys))
 
 -- a part by its fields
-made : (part : Part) (least : ℕ) (slots : List ℕ) → part.slots ≡ set_of slots → part.least ≡ least → part.twice ≡ has_twice slots → part ≡ part_of least slots
+made : (part : Part) (least : ℕ) (slots : List ℕ) → part.slots ≡ set_of slots → part.least ≡ least → part.twice ≡ has_twice slots → part ≡ part_from least slots
 made part least slots is_set is_least is_twice = rw (sym is_set, sym is_least, sym is_twice) refl
 
 -- the slots that were found, in the array
@@ -46,4 +46,4 @@ returns c =
     let within : length now.0 ≤ 16 = omega (arith, now.2, now.3) in
     let walk = now.6 ∙ list_after-end slot_in 0 16 now.0 _ c.in_default.ensures.end (omega arith) within in
     let part = made c.new.result c.args.least now.0 (c.new.ensures.slots ∙ ap set_of all) c.new.ensures.least (c.new.ensures.twice ∙ ap has_twice all) in
-    ap Some part ∙ sym (ap (option_map (part_of c.args.least)) walk)
+    ap Some part ∙ sym (ap (option_map (part_from c.args.least)) walk)
