@@ -288,6 +288,20 @@ uint32_t pgp_missing_objects(pgp_session *session, uint32_t pool, uint32_t pg, u
  * *left is 0. At PGP_NO_MEMORY and PGP_NOT_OPEN *left is 0. The session stays as it was: it answers sooner, and the same. */
 uint32_t pgp_work(pgp_session *session, size_t max, size_t *left);
 
+/* A placement group. */
+typedef struct pgp_group {
+    uint32_t pool;
+    uint32_t pg;             /* its number in its pool */
+} pgp_group;
+
+/* Puts the groups that may have changed since the session's log had `since` entries into the room, each once, as the calls above
+ * put a list: PGP_DONE, PGP_ROOM_TOO_SMALL, PGP_NO_MEMORY or PGP_NOT_OPEN. Of any other group pgp_ask and the calls of lists say what
+ * they said then, except for count and epoch. It gives a group that an entry made or touched after the group was last asked for, or
+ * worked out by pgp_work, and one for which that was with more entries than `since`. So a caller asks for each, and gives the count
+ * of those answers the next time. After pgp_open_lines, pgp_open_copy and pgp_compact_log it gives all groups. The session stays as
+ * it was. */
+uint32_t pgp_changed(pgp_session *session, size_t since, pgp_group *room, size_t room_length, size_t *count);
+
 /* A device's weight. */
 typedef struct pgp_device_weight {
     uint32_t osd;            /* 0 to 4095 */

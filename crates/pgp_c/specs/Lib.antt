@@ -3,6 +3,7 @@ pub mod Status
 pub mod Place
 pub mod View
 pub mod Ask
+pub mod Changed
 pub mod Compact
 pub mod Submit
 pub mod Info

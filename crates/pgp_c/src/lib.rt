@@ -10,6 +10,7 @@
 ghost use Rattle.std.specs.Prelude.{◌≡◌, Some, map};
 ghost use Rattle.pgp_lines.specs.declared.command.format.Format.TheVariants.{Two};
 ghost use Rattle.pgp_c.specs.Ask.{Asks};
+ghost use Rattle.pgp_c.specs.Changed.{TellsChanged};
 ghost use Rattle.pgp_c.specs.Compact.{Compacts};
 ghost use Rattle.pgp_c.specs.Copy.{OpensCopy};
 ghost use Rattle.pgp_c.specs.Exports.{Opens, Closes, Tells, Repeats, session_format};
@@ -27,6 +28,7 @@ ghost use Rattle.pgp_c.specs.Submit.{SubmitsClose};
 ghost use Rattle.pgp_c.specs.Work.{Works};
 
 mod ask;
+mod changed;
 mod compact;
 mod copy;
 mod devices;
@@ -53,6 +55,7 @@ mod tree;
 mod view;
 mod work;
 
+use changed::{PgpGroup, put_changed};
 use compact::compact_log;
 use copy::open_copy;
 use inc::{PgpInc, submit_inc};
@@ -456,6 +459,27 @@ pub extern "C" fn pgp_work(
         return Status::NotOpen.number();
     };
     let status = work(&mut opened, max, left);
+    session.put(opened);
+    status
+}
+
+/// Puts the groups that may have changed since the session's log had `since` entries into `room` if they fit, and their number into
+/// `count`.
+#[unsafe(no_mangle)]
+pub extern "C" fn pgp_changed(
+    alloc: Global,
+    session: &mut PgpSession,
+    since: usize,
+    room: &mut [PgpGroup],
+    count: &mut usize,
+) -> u32
+    ensures { TellsChanged session.old.held.session session.new.held.session since room.old room.new count.new result }
+{
+    *count = 0;
+    let Some(mut opened) = session.take(alloc) else {
+        return Status::NotOpen.number();
+    };
+    let status = put_changed(&mut opened, since, room, count);
     session.put(opened);
     status
 }

@@ -12,3 +12,4 @@ pub mod TurnLemmas
 pub mod HistoryLemmas
 pub mod AddedLemmas
 pub mod CountsLemmas
+pub mod ChangedLemmas

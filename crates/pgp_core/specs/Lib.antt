@@ -15,6 +15,7 @@ pub mod Whole
 pub mod Added
 pub mod Telling
 pub mod Session
+pub mod Changed
 pub mod Examples
 pub mod Worked
 pub mod Counts

@@ -16,6 +16,7 @@ ghost use Rattle.pgp_log.specs.RawSets.{AreRawSets};
 ghost use Rattle.pgp_shard.specs.Running.{IsReading};
 ghost use Rattle.pgp_shard.specs.Shard.{HasReadSame, is_marked, is_own};
 ghost use Rattle.pgp_core.specs.Answer.{located_reply, log_with, submitted_reply};
+ghost use Rattle.pgp_core.specs.Changed.{AreAllChanged};
 ghost use Rattle.pgp_core.specs.Counts.{counts_of};
 ghost use Rattle.pgp_core.specs.Wants.{MayFindNone};
 
@@ -166,6 +167,15 @@ impl Log {
         work_on(&mut self.shard, &self.log, max)
     }
 
+    /// The groups that may have changed since the log had this many entries, each once, in the order in which its map got them. Of each
+    /// other group it says what it said, except for count and epoch.
+    pub fn changed_since(&mut self, count: usize) -> Result<Vec<PgId>, AllocError>
+        ensures changed { IfOk result (λ ids. AreAllChanged count self.old ids.items) }
+        ensures same { self.new ≡ self.old }
+    {
+        changed_since(&mut self.shard, &self.log, count)
+    }
+
     /// The reply to an entry. Where the log takes it, the log has it from now on.
     pub fn submit(&mut self, entry: Entry) -> Result<Reply, AllocError>
         ensures reply { IfOk result (λ reply. reply ≡ submitted_reply self.old entry (fits self.old entry)) }
@@ -266,6 +276,20 @@ fn work_on(shard: &mut ShardState, log: &JudgedLog, max: usize) -> Result<usize,
         return Ok(unread - max);
     }
     shard.renew(max - unread)
+}
+
+/// The groups that may have changed since a log had this many entries, by its only shard, which reads all of it.
+fn changed_since(
+    shard: &mut ShardState,
+    log: &JudgedLog,
+    count: usize,
+) -> Result<Vec<PgId>, AllocError>
+    requires { IsReading log.now 1 0 shard.old }
+    ensures changed { IfOk result (λ ids. AreAllChanged count log.now ids.items) }
+    ensures reading { IsReading log.now 1 0 shard.new }
+{
+    shard.absorb_next(log.entries(), log.len())?;
+    shard.changed_since(count)
 }
 
 /// Has the only shard of a log work out the group, where there is one. It is out of memory only where an incremental was read,

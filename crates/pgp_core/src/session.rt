@@ -8,6 +8,7 @@ ghost use Rattle.pgp_group.specs.Touched.{view_at};
 ghost use Rattle.pgp_log.specs.Log.{epoch_of, is_legal};
 ghost use Rattle.pgp_lines.specs.declared.command.Command.TheVariants.{Locate, Submit};
 ghost use Rattle.pgp_core.specs.Added.{IsOutcome, added_by, with_added};
+ghost use Rattle.pgp_core.specs.Changed.{AreAllChanged};
 ghost use Rattle.pgp_core.specs.Counts.{counts_of};
 ghost use Rattle.pgp_core.specs.Script.{MayMeet, answer, log_past};
 ghost use Rattle.pgp_core.specs.Session.{LogAndAnswer, last_text, log_then, met_by, reply_in, view_in};
@@ -193,6 +194,15 @@ impl Session {
         ensures { self.new ≡ self.old }
     {
         self.log.work(max)
+    }
+
+    /// The groups that may have changed since its log had this many entries, each once, in the order in which its map got them. Of each
+    /// other group it says what it said, except for count and epoch.
+    pub fn changed_since(&mut self, count: usize) -> Result<Vec<PgId>, AllocError>
+        ensures changed { IfOk result (λ ids. AreAllChanged count self.old.log ids.items) }
+        ensures same { self.new ≡ self.old }
+    {
+        self.log.changed_since(count)
     }
 
     /// Tells the log an entry, and gives the reply. Where the log takes the entry, it has it from now on.

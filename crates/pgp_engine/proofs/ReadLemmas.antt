@@ -79,7 +79,7 @@ seen_by entries shard named is = subst (λ (s : Reader). IsFrontOf entries s.see
 -- a group that is worked out by all that was read, which is as long as the caller's front, is shown
 pub shown : (q target : Receipt) (pg : PgId) (before after : Shard) (seen : List Entry) → IsFrontOf (entries_of q) (entries_of target)
     → before.front ≡ entries_of target → is_own before.shard before.shards pg ≡ true → HasReadSame before after → IsUnmarked pg before after
-    → IsShown q pg (record { front = after.front; shard = after.shard; shards = after.shards; marks = after.marks; seen = seen })
+    → IsShown q pg (record { front = after.front; shard = after.shard; shards = after.shards; marks = after.marks; worked = after.worked; seen = seen })
 shown q target pg before after seen holds whole own same away =
     let is : after.front ≡ entries_of target = same.front_is ∙ whole in
     record {

@@ -6,23 +6,24 @@ use Rattle.pgp_ids.specs.declared.pg_id.PgId.{PgId}
 use Rattle.pgp_map.specs.Pools.{has_group}
 use Rattle.pgp_group.specs.Entries.{incs_of}
 use Rattle.pgp_log.specs.Log.{front, IsFrontOf}
-use Rattle.pgp_shard.specs.Shard.{AreUnmarked, HasReadSame, Shard, is_own}
+use Rattle.pgp_shard.specs.Shard.{AreUnmarked, HasReadSame, Shard, WorkedGroup, is_own}
 use Rattle.pgp_feed.specs.declared.receipt.Receipt.{Receipt}
 use Rattle.pgp_feed.specs.Receipts.{entries_of, feed_of}
 use Rattle.pgp_engine.specs.Fronts.{Names}
 
 -- the entries that the shard has read, its number, how many shards there are, its marks (the groups that have to be worked out,
--- where it keeps what follows from the entries), and the front that its tap gave last
+-- where it keeps what follows from the entries), when its groups were worked out, and the front that its tap gave last
 pub record Reader : Type 0 where
   pub front : List Entry
   pub shard : ℕ
   pub shards : ℕ
   pub marks : Option (List PgId)
+  pub worked : List WorkedGroup
   pub seen : List Entry
 
 -- all of it but what its tap gave
 abbrev pub state_of : Reader → Shard
-state_of s = record { front = s.front; shard = s.shard; shards = s.shards; marks = s.marks }
+state_of s = record { front = s.front; shard = s.shard; shards = s.shards; marks = s.marks; worked = s.worked }
 
 -- the group is one of the shard's own
 abbrev pub Serves : Reader → PgId → Type 0

@@ -46,6 +46,7 @@ impl<J: Naming> Model for Shard<J> {
       shard = s.state.shard;
       shards = s.state.shards;
       marks = s.state.marks;
+      worked = s.state.worked;
       seen = entries_of (last_of s.tap);
     } };
 

@@ -2,9 +2,9 @@
 pub use Rattle.std.proofs.Common.{Bool, Bor, Err, IfOk, IfSome, List, None, Ok, OnErr, OnOk, Option, Result, Some, [], add-one, ap, append-nil, append_assoc, ap₂, arith, bit_and, bit_or, cond, drop, eq-eqb, false, get_or, if◌then◌else◌, inl, inr, is_none, is_some, length, length-append, map, min, nat_eq, nat_lt, not, option_map, refl, replicate, rules, set, slice_get, subst, suc, sym, take, true, w64, zero, zero-add, ℕ, ◌%◌, ◌&&◌, ◌*◌, ◌++◌, ◌+◌, ◌-◌, ◌/◌, ◌<◌, ◌^◌, ◌||◌, ◌∙◌, ◌∷◌, ◌≡◌, ◌≤◌, ◌⊎◌}
 pub use Rattle.std.proofs.Math.Bool.{and-false, and-true, or-false, or-true}
 pub use Rattle.std.proofs.Math.Seq.{drop-append_seam, map-set_same, take-append-add}
-pub use Rattle.std.proofs.lemmas.Bool.{and_from, and_parts, and_right, cases_Bool, cases_eq, cases_lt, eqb-true, false_from_ne_true, not-false, not-true, or_cases, or_parts, true_from_ne_false, true≢false}
+pub use Rattle.std.proofs.lemmas.Bool.{and_from, and_parts, and_right, cases_Bool, cases_eq, cases_lt, eqb-true, le-ltb, ltb-false, false_from_ne_true, not-false, not-true, or_cases, or_parts, true_from_ne_false, true≢false}
 pub use Rattle.std.proofs.lemmas.Bool.Decides.{nat_tests}
-pub use Rattle.std.proofs.lemmas.List.{drop-append-le, drop-map, get_or-map, get_or-set_other, get_or-set_same, get_or_default, length-map, length-set, length-take, map-append, map-set, take-append-drop, take-map, take-take, take_all, take_more_set}
+pub use Rattle.std.proofs.lemmas.List.{drop-append-le, drop-map, get_or-map, get_or-set_other, get_or-set_same, get_or_default, length-map, length-set, length-take, map-append, map-set, take-append-drop, take-append-le, take-map, take-take, take_all, take_more_set}
 pub use Rattle.std.proofs.lemmas.List.Elements.{All-get_or, All-head, All-push, All-set, All-tail, filter-append, filter_more}
 pub use Rattle.std.proofs.lemmas.List.Folds.{list_any-append, list_any_more}
 pub use Rattle.std.proofs.lemmas.Option.{get_or_from_slice_get, none-some, same_Some, slice_get-map, slice_get_read, slice_get_within}
@@ -43,14 +43,14 @@ pub use Rattle.pgp_lists.proofs.Lists.{any-mapped, get-append, get-last, get-set
 pub use Rattle.pgp_lists.proofs.Options.{some-weaker, some_is}
 pub use Rattle.pgp_lists.specs.Repeats.{has_repeat}
 pub use Rattle.pgp_log.specs.Fits.{fits, is_close, is_closed}
-pub use Rattle.pgp_shard.specs.kept.Groups.{HasOneMore, AreAtPlaces, AreGroupsOf, AreOwnGroupsOf, CanAbsorb, HasOwn, HasStill, IsKeptBeside, IsKeptIfOwn, IsOwnIfKept, IsStepping, KeepsAll, KeepsMarks, keeps, marks_of, owns, shard_with}
-pub use Rattle.pgp_shard.specs.kept.KeptGroup.{AreAllMarked, AreKeptOf, IsKeptOf, IsStep, IsViewOf, ids_of, lacks_view, marks_in}
+pub use Rattle.pgp_shard.specs.kept.Groups.{HasOneMore, AreAtPlaces, AreGroupsOf, AreOwnGroupsOf, CanAbsorb, FollowStill, HasOwn, HasStill, AreWorkedAt, IsKeptBeside, IsKeptIfOwn, IsOwnIfKept, IsStepping, KeepsAll, KeepsMarks, RenewsMarks, keeps, marks_of, owns, shard_with, worked_of}
+pub use Rattle.pgp_shard.specs.kept.KeptGroup.{AreAllMarked, AreKeptOf, IsKeptOf, IsStep, IsViewOf, IsViewSince, IsWorkedOut, ids_of, is_newer, lacks_view, marks_in, newer_in, worked_count, worked_in}
 pub use Rattle.pgp_shard.specs.kept.Rows.{AreRowsOf, IsChangesOf, IsRowOf, may_concern}
 pub use Rattle.pgp_log.specs.Log.{HasInc, IsFrontOf, epoch_of, is_legal}
 pub use Rattle.pgp_log.specs.MapBefore.{IsMapBefore, makes_heavier, only_lightens}
 pub use Rattle.pgp_shard.specs.kept.OsdFilter.{Covers, CoversStill, have_a_bit, may_meet}
 pub use Rattle.pgp_log.specs.RawSets.{IsRawSet}
-pub use Rattle.pgp_shard.specs.Shard.{AreMarked, HasReadFewer, HasReadSame, HasReadSome, IsUnmarked, MarksOnlyTouched, Shard, has_own, having_read, having_read_all, having_read_front, is_among, is_own, opening_shard, shard_of, without_group}
+pub use Rattle.pgp_shard.specs.Shard.{AreMarked, HasReadFewer, HasReadSame, HasReadSome, HaveChanged, IsUnmarked, MarksOnlyTouched, SaysStill, Shard, WorkedGroup, WorksOutMarks, has_own, having_read, having_read_all, having_read_front, is_among, is_own, opening_shard, shard_of, without_group, worked_at}
 pub use Rattle.pgp_log.specs.Touch.{changes_no_pool, changes_placement, changes_placements}
 pub use Rattle.pgp_shard.specs.World.{Reply, Step, World, after, after_absorb, after_all, after_submit, front_of, replies, reply_to, submit_reply, view_reply}
 pub use Rattle.pgp_shard.specs.World.Reply.{Absorbed, Asked, Submitted}

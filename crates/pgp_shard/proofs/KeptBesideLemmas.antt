@@ -23,7 +23,7 @@ has-untouched log (entry.Inc inc) pg untouched =
 has-untouched log new pg untouched = ap (λ (l : List Incremental). has_group l pg) (incs-other log new refl)
 
 -- an entry that fits leaves the map each group that it has
-has-still-there : (log : List Entry) (new : Entry) (pg : PgId) → fits log new ≡ None → has_group (incs_of log) pg ≡ true → has_group (incs_of (log ++ new ∷ [])) pg ≡ true
+pub has-still-there : (log : List Entry) (new : Entry) (pg : PgId) → fits log new ≡ None → has_group (incs_of log) pg ≡ true → has_group (incs_of (log ++ new ∷ [])) pg ≡ true
 has-still-there log (entry.Inc inc) pg fit there =
     ap (λ (l : List Incremental). has_group l pg) (grown log inc)
     ∙ still-there (incs_of log) inc pg (faultless-inc log (entry.Inc inc) inc refl (fits-faultless log (entry.Inc inc) fit)) there
@@ -37,6 +37,7 @@ marks-away owner log new fit = record {
       and_from (owns owner pg) (has_group (incs_of (log ++ new ∷ [])) pg) parts.0 (has-still-there log new pg fit parts.1);
   others = λ pg untouched. ap (λ b. owns owner pg && b) (has-untouched log new pg untouched);
   there = refl;
+  worked = λ pg unmarked. refl;
 }
 
 -- ---- the marks

@@ -1,5 +1,5 @@
 -- What a shard keeps of its groups, as the log grows.
-use Rattle.pgp_shard.proofs.Common.{◌≡◌, ℕ, List, [], ◌∷◌, ◌++◌, true, false, Bor, Option, Some, None, IfSome, is_none, is_some, not, length, option_map, refl, sym, ap, ◌∙◌, subst, filter, option_copied, false_from_ne_true, true≢false, some_is, Entry, Incremental, Membership, PgId, Info, View, checked-more, are_checked, device, HasGroup, epoch, map_fault, then_with, IsMapOf, has_group, is_same_group, pool, temp, OsdMap, raw_set-stays, may_place_elsewhere, members_from_up, membership, raw_set_of, without_down, infos-kept, infos-other, infos-same, names-kept, past-same, reports-kept, reports-other, reports-same, IsGroupOf-other, has_group-grows, reached-now, history_there, inc_of, incs_of, infos_of, reports_of, EpochsAscend, group_facts, group_history, made_at, IsGroupOf, IsSilent, group_with, reaching, is_touched, view_at, scratch, view_of, Group, MapBefore, fits, IsKeptOf, IsStep, IsViewOf, HasInc, is_legal, IsRawSet, KeptGroup, epochs_ascend}
+use Rattle.pgp_shard.proofs.Common.{◌≡◌, ℕ, ◌+◌, List, [], ◌∷◌, ◌++◌, true, false, Bor, Option, Some, None, IfSome, is_none, is_some, not, length, option_map, refl, sym, ap, ◌∙◌, subst, filter, option_copied, false_from_ne_true, true≢false, arith, inl, inr, cases_lt, length-append, same_Some, take_all, take-append-le, some_is, Entry, Incremental, Membership, PgId, Info, View, checked-more, are_checked, device, HasGroup, epoch, map_fault, then_with, IsMapOf, has_group, is_same_group, pool, temp, OsdMap, raw_set-stays, may_place_elsewhere, members_from_up, membership, raw_set_of, without_down, infos-kept, infos-other, infos-same, names-kept, past-same, reports-kept, reports-other, reports-same, IsGroupOf-other, has_group-grows, reached-now, history_there, inc_of, incs_of, infos_of, reports_of, EpochsAscend, group_facts, group_history, made_at, IsGroupOf, IsSilent, group_with, reaching, is_touched, view_at, scratch, view_of, Group, MapBefore, fits, IsKeptOf, IsStep, IsViewOf, IsViewSince, HasInc, is_legal, IsRawSet, KeptGroup, epochs_ascend}
 use Rattle.pgp_ids.specs.declared.entry.Entry.TheVariants as entry
 use Rattle.pgp_ids.specs.declared.history.PrimaryFacts.{PrimaryFacts}
 use Rattle.pgp_ids.specs.declared.report.Report.{Report}
@@ -72,13 +72,23 @@ legal-absent = legal-induction (λ log. (pg : PgId) → has_group (incs_of log) 
 
 -- ---- views
 
-no_view : (log : List Entry) (pg : PgId) (view : Option View) → view ≡ None → IfSome view (IsViewOf log pg)
-no_view log pg view none = subst (λ (o : Option View). IfSome o (IsViewOf log pg)) (sym none) tt
+no_view : (log : List Entry) (pg : PgId) (view : Option View) → view ≡ None → IfSome view (IsViewSince log pg)
+no_view log pg view none = subst (λ (o : Option View). IfSome o (IsViewSince log pg)) (sym none) tt
+
+-- a view that is right since it was worked out is that of the log
+pub view-whole : (log : List Entry) (pg : PgId) (view : View) → IsViewSince log pg view → IsViewOf log pg view
+view-whole log pg view is =
+    let all : ℕ = view.count + length log in subst (λ (l : List Entry). IsViewOf l pg view) (take_all all log (omega arith)) (is all (omega arith))
 
 -- the view stays that of the log, where the entry changes it in count and epoch alone
-pub view-stays : (log : List Entry) (new : Entry) (pg : PgId) (view : Option View) → Stays log new pg → IfSome view (IsViewOf log pg) → IfSome view (IsViewOf (log ++ new ∷ []) pg)
+pub view-stays : (log : List Entry) (new : Entry) (pg : PgId) (view : Option View) → Stays log new pg → IfSome view (IsViewSince log pg) → IfSome view (IsViewSince (log ++ new ∷ []) pg)
 view-stays log new pg None stays is = tt
-view-stays log new pg (Some view) stays is = stays ∙ ap (option_map (view_at (length (log ++ new ∷ [])) (epoch (incs_of (log ++ new ∷ []))))) is
+view-stays log new pg (Some view) stays is = λ n from. elim (cases_lt (length log) n) [
+  | inl past ↦
+      subst (λ (l : List Entry). IsViewOf l pg view) (sym (take_all n (log ++ new ∷ []) (omega (arith, past, length-append log (new ∷ [])))))
+      (stays ∙ ap (option_map (view_at (length (log ++ new ∷ [])) (epoch (incs_of (log ++ new ∷ []))))) (view-whole log pg view is))
+  | inr within ↦ subst (λ (l : List Entry). IsViewOf l pg view) (sym (take-append-le n log (new ∷ []) within)) (is n from)
+]
 
 -- an incremental that doesn't touch the group does so
 pub untouched-inc : (log : List Entry) (inc : Incremental) (before : MapBefore) (after : OsdMap) (pg : PgId) → IsStep log inc before after → is_touched log (entry.Inc inc) pg ≡ false → Stays log (entry.Inc inc) pg
@@ -94,6 +104,14 @@ pub view-now : (log : List Entry) (pg : PgId) (view : View) → scratch log pg �
 view-now log pg view is =
     mapped-same view_of (view_at (length log) (epoch (incs_of log))) (group_with log pg) (group_with log pg) (group_history (incs_of log) pg) (λ h. refl)
     ∙ ap (option_map (view_at (length log) (epoch (incs_of log)))) is
+
+-- and it was worked out by all of it
+pub view-counts : (log : List Entry) (pg : PgId) (view : View) → scratch log pg ≡ Some view → view.count ≡ length log
+view-counts log pg view is = ap (λ (v : View). v.count) (same_Some view (view_at (length log) (epoch (incs_of log)) view) (sym is ∙ view-now log pg view is))
+
+view-since : (log : List Entry) (pg : PgId) (view : View) → scratch log pg ≡ Some view → IsViewSince log pg view
+view-since log pg view is = λ n from.
+    subst (λ (l : List Entry). IsViewOf l pg view) (sym (take_all n log (omega (arith, from, view-counts log pg view is)))) (view-now log pg view is)
 
 -- ---- a group comes
 
@@ -225,7 +243,7 @@ kept-anew log old group is stands = record { group_is = reached-now log old.pg g
 pub kept-worked_out : (log : List Entry) (old : KeptGroup) (group : Group) (view : View) → IsKeptOf log old → IsGroupOf log old.pg group → scratch log old.pg ≡ Some view
     → IsKeptOf log (record old { group = group; view = Some view })
 kept-worked_out log old group view is stands says =
-    record { group_is = reached-now log old.pg group stands; raw_is = is.raw_is; temp_is = is.temp_is; view_is = view-now log old.pg view says }
+    record { group_is = reached-now log old.pg group stands; raw_is = is.raw_is; temp_is = is.temp_is; view_is = view-since log old.pg view says }
 
 -- ---- the group is told of
 
@@ -234,7 +252,8 @@ pub view-there : (pg : PgId) (kept : KeptGroup) (P : List Entry → Type 0) (tol
     → IfSome told (λ view. (log : List Entry) → P log → IsViewOf log pg view.now)
 view-there pg kept P None is same each = tt
 view-there pg kept P (Some view) is same each = λ log holds.
-    subst (λ (id : PgId). IsViewOf log id view.now) same (subst (λ (o : Option View). IfSome o (IsViewOf log kept.pg)) (sym is) (each log holds).view_is)
+    subst (λ (id : PgId). IsViewOf log id view.now) same
+    (view-whole log kept.pg view.now (subst (λ (o : Option View). IfSome o (IsViewSince log kept.pg)) (sym is) (each log holds).view_is))
 
 pub there-copied : {X : Type 0} (told : Option (Bor X)) → is_some told ≡ not (is_none (option_copied told))
 there-copied None = refl

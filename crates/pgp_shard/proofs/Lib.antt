@@ -8,6 +8,8 @@ pub mod RowLemmas
 pub mod GroupsLemmas
 pub mod PassingLemmas
 pub mod MarksLemmas
+pub mod WorkedLemmas
 pub mod OwnGroupsLemmas
 pub mod KeptBesideLemmas
+pub mod ChangedLemmas
 pub mod ShardLemmas

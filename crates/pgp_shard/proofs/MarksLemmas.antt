@@ -1,5 +1,5 @@
 -- Which groups have to be worked out anew, as the groups change.
-use Rattle.pgp_shard.proofs.Common.{◌≡◌, ℕ, zero, suc, ◌+◌, ◌-◌, ◌<◌, ◌≤◌, List, [], ◌∷◌, ◌++◌, Bool, true, false, ◌&&◌, ◌||◌, Option, Some, None, is_some, is_none, Result, Ok, Err, OnOk, length, drop, set, slice_get, refl, sym, ap, ◌∙◌, arith, eq-eqb, length-append, list_any, nat_eq, cases_Bool, false_from_ne_true, or_parts, true≢false, nat_tests, All-head, All-tail, list_any-append, same_Some, and-false, and-true, and_from, and_parts, inl, inr, or-false, or-true, Entry, Incremental, View, PgId, or3_parts, none-each, has_repeat, is_same_group, changes_pool, changes_temp, is_touched, moves_all, AreAtPlaces, marks_of, AreAllMarked, ids_of, lacks_view, marks_in, is_among, without_group, Groups, KeptGroup, same_group}
+use Rattle.pgp_shard.proofs.Common.{◌≡◌, ℕ, zero, suc, ◌+◌, ◌-◌, ◌<◌, ◌≤◌, List, [], ◌∷◌, ◌++◌, Bool, true, false, ◌&&◌, ◌||◌, Option, Some, None, is_some, is_none, Result, Ok, Err, OnOk, length, drop, set, slice_get, refl, sym, ap, ◌∙◌, arith, eq-eqb, length-append, filter, list_any, nat_eq, cases_Bool, false_from_ne_true, or_parts, true≢false, nat_tests, All-head, All-tail, list_any-append, same_Some, and-false, and-true, and_from, and_parts, inl, inr, or-false, or-true, Entry, Incremental, View, PgId, or3_parts, none-each, has_repeat, is_same_group, changes_pool, changes_temp, is_touched, moves_all, AreAtPlaces, marks_of, AreAllMarked, ids_of, lacks_view, marks_in, is_among, without_group, Groups, KeptGroup, same_group}
 use Rattle.std.proofs.Math.ListN.{drop_of_length-le}
 use Rattle.std.specs.HashMap as hash
 use Rattle.pgp_ids.specs.declared.entry.Entry.TheVariants as entry
@@ -94,14 +94,18 @@ any-of-one p (y ∷ xs) (suc i) x at others =
     ap (λ b. b || list_any p xs) (others 0 y (λ e. absurd (omega (arith, e))) refl)
     ∙ any-of-one p xs i x at (λ j z differs found. others (suc j) z (λ e. differs (omega (arith, e))) found)
 
--- a group is among the marks just where what is kept of it is marked
+-- a group is among those that pass a test just where what is kept of it passes
+pub passes-at : (m : KeptGroup → Bool) (groups : Groups) (pg : PgId) (place : ℕ) (kept : KeptGroup) → AreAtPlaces groups → hash.get is_same_group groups.places pg ≡ Some place
+    → slice_get groups.kept.items place ≡ Some kept → is_among pg (ids_of (filter m groups.kept.items)) ≡ m kept
+passes-at m groups pg place kept are is at =
+    any-passing m pg_of (is_same_group pg) groups.kept.items
+    ∙ any-of-one (λ k. m k && is_same_group pg (pg_of k)) groups.kept.items place kept at
+    (λ j other differs found. ap (λ b. m other && b) (other-group groups pg place j other are is found differs) ∙ and-false (m other))
+    ∙ ap (λ b. m kept && b) (ap (is_same_group pg) (place-holds groups pg place kept are is at) ∙ same-self pg) ∙ and-true (m kept)
+
 pub marked-at : (groups : Groups) (pg : PgId) (place : ℕ) (kept : KeptGroup) → AreAtPlaces groups → hash.get is_same_group groups.places pg ≡ Some place → slice_get groups.kept.items place ≡ Some kept
     → is_among pg (marks_of groups) ≡ lacks_view kept
-marked-at groups pg place kept are is at =
-    any-passing lacks_view pg_of (is_same_group pg) groups.kept.items
-    ∙ any-of-one (λ k. lacks_view k && is_same_group pg (pg_of k)) groups.kept.items place kept at
-    (λ j other differs found. ap (λ b. lacks_view other && b) (other-group groups pg place j other are is found differs) ∙ and-false (lacks_view other))
-    ∙ ap (λ b. lacks_view kept && b) (ap (is_same_group pg) (place-holds groups pg place kept are is at) ∙ same-self pg) ∙ and-true (lacks_view kept)
+marked-at = passes-at lacks_view
 
 -- ---- marked groups are worked out, as many as may be
 
@@ -163,7 +167,7 @@ no-repeat same (x ∷ xs) apart =
     (no-repeat same xs (λ i j y z one two is. omega (arith, apart (suc i) (suc j) y z one two is)))
 
 -- the table says of each group one place
-ids-once : (groups : Groups) → AreAtPlaces groups → has_repeat is_same_group (ids_of groups.kept.items) ≡ false
+pub ids-once : (groups : Groups) → AreAtPlaces groups → has_repeat is_same_group (ids_of groups.kept.items) ≡ false
 ids-once groups are =
     no-repeat is_same_group (ids_of groups.kept.items)
     (λ i j pg other one two is. same_Some i j (sym (are.found pg i one) ∙ ap (hash.get is_same_group groups.places) (same_group pg other is) ∙ are.found other j two))

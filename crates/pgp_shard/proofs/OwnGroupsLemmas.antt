@@ -4,6 +4,7 @@ use Rattle.pgp_ids.specs.declared.entry.Entry.TheVariants as entry
 use Rattle.std.specs.HashMap as hash
 use Rattle.pgp_shard.proofs.GroupsLemmas.{groups-anew, groups-on, ids-set, keeps-found}
 use Rattle.pgp_shard.proofs.KeptLemmas.{grown, step-checked, step-fine, still-there}
+use Rattle.pgp_shard.proofs.WorkedLemmas.{keeps-on}
 use Rattle.pgp_log.proofs.LogLemmas.{legal-snoc}
 use Rattle.pgp_log.proofs.ComingLemmas.{comes-with_pool}
 use Rattle.pgp_log.proofs.TakeLemmas.{faultless-inc, fits-faultless, incs-other}
@@ -110,7 +111,7 @@ has-still owner incs before after pg still has = λ own there. still.groups_are 
 pub still-on : (first before after : Groups) → HasStill first before → HasStill before after → HasStill first after
 still-on first before after one two = record {
   groups_are = λ pg was. two.groups_are pg (one.groups_are pg was);
-  kept = λ pg was. two.kept pg (one.kept pg was);
+  kept = keeps-on first before after one.kept two.kept;
   marked = λ all. two.marked (one.marked all);
 }
 

@@ -55,7 +55,7 @@ passing-fails m f xs x fails = ap (map f) (filter-append m xs (x ∷ []) ∙ rw 
 -- ---- each name once
 
 -- a name that none has, none of those that pass has
-none-passing : {X Y : Type 0} (m : X → Bool) (f : X → Y) (q : Y → Bool) (xs : List X) → list_any q (map f xs) ≡ false → list_any q (map f (filter m xs)) ≡ false
+pub none-passing : {X Y : Type 0} (m : X → Bool) (f : X → Y) (q : Y → Bool) (xs : List X) → list_any q (map f xs) ≡ false → list_any q (map f (filter m xs)) ≡ false
 none-passing m f q [] none = refl
 none-passing m f q (x ∷ xs) none =
     let parts = or_parts (q (f x)) (list_any q (map f xs)) none in

@@ -1,5 +1,5 @@
 -- What a shard has read.
-use Rattle.pgp_shard.proofs.Common.{◌≡◌, ℕ, ◌+◌, ◌<◌, List, [], ◌∷◌, ◌++◌, Bool, false, not, Option, length, get_or, map, take, refl, ap, sym, ◌∙◌, arith, filter, list_any, option_map_or, cases_Bool, nat_tests, length-map, take-map, Entry, PgId, is_same_group, HasReadSame, HasReadSome, IsUnmarked, Shard, has_own, having_read, having_read_all, is_among}
+use Rattle.pgp_shard.proofs.Common.{◌≡◌, ℕ, ◌+◌, ◌<◌, List, [], ◌∷◌, ◌++◌, Bool, false, ◌&&◌, not, cond, Option, Some, length, get_or, map, take, refl, ap, ap₂, sym, ◌∙◌, arith, filter, list_any, option_map_or, cases_Bool, nat_tests, length-map, take-map, Entry, PgId, is_same_group, HasReadSame, HasReadSome, IsUnmarked, AreMarked, AreWorkedAt, RenewsMarks, Shard, WorkedGroup, WorksOutMarks, has_own, having_read, having_read_all, is_among, marks_of, worked_at, worked_in, worked_of, Groups}
 use Rattle.pgp_shard.specs.Shard.{is_marked}
 use Rattle.pgp_log.proofs.SharedLemmas.{next-after}
 
@@ -35,8 +35,23 @@ pub unmarked-now : (pg : PgId) (before after : Shard) → IsUnmarked pg before a
 unmarked-now pg before after is =
     ap (λ (marks : Option (List PgId)). option_map_or (is_among pg) marks (has_own after pg)) is.left ∙ none-left (is_same_group pg) is.marked
 
+-- groups were worked out, where the shard's groups were these and are those
+pub works-out : (before after : Shard) (count : ℕ) (old new : Groups) → AreMarked before (marks_of old) → AreWorkedAt before old → RenewsMarks count old new → count ≡ length before.front
+    → after.marks ≡ Some (marks_of new) → after.worked ≡ worked_in new.kept.items → WorksOutMarks before after
+works-out before after count old new were when renews long marks worked = record {
+  kept = λ pg is. sym (were.each pg) ∙ renews.marks pg (sym (marked pg) ∙ is);
+  worked = λ pg.
+      ap (λ (l : List WorkedGroup). worked_at l pg) worked ∙ renews.worked pg
+      ∙ ap (λ n. cond (is_among pg (marks_of old) && not (is_among pg (marks_of new))) n (worked_of old pg)) long
+      ∙ ap (λ n. cond (is_among pg (marks_of old) && not (is_among pg (marks_of new))) (length before.front) n) (when pg)
+      ∙ ap₂ (λ a b. cond (a && not b) (length before.front) (worked_at before.worked pg)) (were.each pg) (sym (marked pg));
+} where
+  marked : (pg : PgId) → is_marked after pg ≡ is_among pg (marks_of new)
+  marked pg = ap (λ (o : Option (List PgId)). option_map_or (is_among pg) o (has_own after pg)) marks
+
 -- a shard that has read the same, whatever its marks
-pub still-read : (before : Shard) (front : List Entry) (shard shards : ℕ) (old new : Option (List PgId)) → ◌≡◌ {A = Shard} (record { front = front; shard = shard; shards = shards; marks = old }) before
-    → HasReadSame before (record { front = front; shard = shard; shards = shards; marks = new })
-still-read before front shard shards old new is =
+pub still-read : (before : Shard) (front : List Entry) (shard shards : ℕ) (old new : Option (List PgId)) (was now : List WorkedGroup)
+    → ◌≡◌ {A = Shard} (record { front = front; shard = shard; shards = shards; marks = old; worked = was }) before
+    → HasReadSame before (record { front = front; shard = shard; shards = shards; marks = new; worked = now })
+still-read before front shard shards old new was now is =
     record { front_is = ap (λ (s : Shard). s.front) is; shard_is = ap (λ (s : Shard). s.shard) is; shards_are = ap (λ (s : Shard). s.shards) is }

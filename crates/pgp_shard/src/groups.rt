@@ -14,8 +14,8 @@ ghost use Rattle.pgp_group.specs.Entries.{inc_of, incs_of};
 ghost use Rattle.pgp_group.specs.GroupHistory.{makes};
 ghost use Rattle.pgp_group.specs.Touched.{is_touched};
 ghost use Rattle.pgp_log.specs.Fits.{fits};
-ghost use Rattle.pgp_shard.specs.kept.Groups.{AreAtPlaces, AreOwnGroupsOf, IsStepping, OfOwnLog, FollowStill, CanStepOn, CanAddTo, CanAbsorb, CanAbsorbInc, CanPassOn, HasOneMore, HavePassedOn, IsKeptIfOwn, HasOwn, HasStill, IsRenewedAt, KeepsMarks, MarksTouched, marks_of, owns};
-ghost use Rattle.pgp_shard.specs.kept.KeptGroup.{AreAllMarked, IsViewOf};
+ghost use Rattle.pgp_shard.specs.kept.Groups.{AreAtPlaces, AreOwnGroupsOf, IsStepping, OfNextOwn, OfOwnLog, FollowStill, CanStepOn, CanAddTo, CanAbsorb, CanAbsorbInc, CanPassOn, HasOneMore, HavePassedOn, IsKeptIfOwn, HasOwn, HasStill, IsRenewedAt, KeepsMarks, MarksTouched, marks_of, owns};
+ghost use Rattle.pgp_shard.specs.kept.KeptGroup.{AreAllMarked, IsViewOf, newer_in};
 ghost use Rattle.pgp_log.specs.Log.{HasInc, is_legal};
 ghost use Rattle.pgp_shard.specs.Shard.{is_among, without_group};
 ghost use Rattle.pgp_shard.specs.declared.owner.Owner.{Owner as AnyOwner};
@@ -82,10 +82,8 @@ impl Groups {
     /// Takes the next entry of the log. After an `Err` they are of no further use.
     pub(crate) fn absorb(&mut self, owner: Owner, entry: &Entry) -> Result<(), AllocError>
         requires { CanAbsorb owner self.old entry.now }
-        ensures ok { OnOk result ((log : List AnyEntry) → AreOwnGroupsOf owner log self.old → fits log entry.now ≡ None
-            → AreOwnGroupsOf owner (log ++ entry.now ∷ []) self.new) }
-        ensures marks { OnOk result ((log : List AnyEntry) → AreOwnGroupsOf owner log self.old → fits log entry.now ≡ None
-            → MarksTouched log entry.now self.old self.new) }
+        ensures ok { OnOk result (OfNextOwn owner self.old entry.now (λ log. AreOwnGroupsOf owner (log ++ entry.now ∷ []) self.new)) }
+        ensures marks { OnOk result (OfNextOwn owner self.old entry.now (λ log. MarksTouched log entry.now self.old self.new)) }
         ensures kept { OnOk result (KeepsMarks self.old self.new) }
         ensures marked { OnOk result (AreAllMarked self.old.kept.items → AreAllMarked self.new.kept.items) }
         ensures wants { OnErr result ((log : List AnyEntry) → AreOwnGroupsOf owner log self.old → HasInc (log ++ entry.now ∷ [])) }
@@ -288,6 +286,20 @@ impl Groups {
     {
         let place = self.find(pg)?;
         self.kept[place].view.as_ref()
+    }
+
+    /// The groups that have to be worked out, or were when more than this many entries were read, in the order of the rows.
+    pub(crate) fn newer(&self, count: usize) -> Result<Vec<PgId>, AllocError>
+        ensures are { IfOk result (λ ids. ids.items ≡ newer_in count self.now.kept.items) }
+        ensures wants { OnErr result (OfOwnLog self.now (λ owner log. HasInc log)) }
+    {
+        let mut newer = Vec::new(self.alloc);
+        for kept in &self.kept {
+            if kept.is_newer(count) {
+                newer.push(kept.pg)?;
+            }
+        }
+        Ok(newer)
     }
 
     /// Works out up to `max` of the groups that are marked. How many are marked still. `count` is the number of the entries.

@@ -13,7 +13,7 @@ ghost use Rattle.pgp_map.specs.declared.map.OsdMap.{OsdMap as AnyMap};
 ghost use Rattle.pgp_group.specs.Entries.{inc_of, incs_of};
 ghost use Rattle.pgp_group.specs.GroupOf.{TellsNothingAhead};
 ghost use Rattle.pgp_group.specs.Touched.{is_touched, has_to_do_with, may_lie_on, may_move};
-ghost use Rattle.pgp_shard.specs.kept.KeptGroup.{IsKeptOf, OfKeptLog, IsStep, CanStep, StepsOn, IsTouchedBy, KeepsView, lacks_view};
+ghost use Rattle.pgp_shard.specs.kept.KeptGroup.{IsKeptOf, OfKeptLog, IsStep, CanStep, StepsOn, IsTouchedBy, IsWorkedOut, KeepsView, is_newer, lacks_view};
 ghost use Rattle.pgp_shard.specs.kept.Rows.{IsRowOf};
 ghost use Rattle.pgp_log.specs.Log.{epoch_of};
 ghost use Rattle.pgp_log.specs.RawSets.{IsRawSet};
@@ -73,6 +73,16 @@ impl KeptGroup {
         self.view.is_none()
     }
 
+    /// The group has to be worked out, or was when more than this many entries were read.
+    pub(crate) fn is_newer(&self, count: usize) -> bool
+        ensures { result ≡ is_newer count self.now }
+    {
+        match &self.view {
+            Some(view) => count < view.count,
+            None => true,
+        }
+    }
+
     /// The row by which an incremental passes the group by.
     pub(crate) fn row(&self) -> Row
         ensures { IsRowOf result self.now }
@@ -104,6 +114,7 @@ impl KeptGroup {
         ensures ok { OnOk result (StepsOn inc.now before.now after.now self.old self.new) }
         ensures marks { OnOk result (KeepsView inc.now before.now after.now self.old self.new) }
         ensures marked { OnOk result (lacks_view self.old ≡ true → lacks_view self.new ≡ true) }
+        ensures stays { OnOk result (lacks_view self.new ≡ false → self.new.view ≡ self.old.view) }
         ensures wants { OnErr result (IsTouchedBy inc.now before.now after.now self.old) }
         ensures pg { self.new.pg ≡ self.old.pg }
     {
@@ -124,6 +135,7 @@ impl KeptGroup {
             → IsKeptOf log self.old → IsKeptOf (log ++ entry.Inc inc.now ∷ []) self.new }
         ensures view { (before : AnyBefore) (after : AnyMap) → KeepsView inc.now before after self.old self.new }
         ensures marked { lacks_view self.old ≡ true → lacks_view self.new ≡ true }
+        ensures stays { lacks_view self.new ≡ false → self.new.view ≡ self.old.view }
         ensures pg { self.new.pg ≡ self.old.pg }
     {
         if self.is_marked() {
@@ -281,6 +293,7 @@ impl KeptGroup {
     pub(crate) fn renew(&mut self, map: &OsdMap, count: usize) -> Result<(), AllocError>
         ensures kept { OfKeptLog self.old (λ log. IsMapOf (incs_of log) map.now → length log ≡ count → IsKeptOf log self.new) }
         ensures marks { OnOk result (is_some self.new.view ≡ true) }
+        ensures worked { OfKeptLog self.old (λ log. IsMapOf (incs_of log) map.now → length log ≡ count → IsWorkedOut count self.old self.new) }
         ensures wants { OnErr result (lacks_view self.old ≡ true) }
         ensures pg { self.new.pg ≡ self.old.pg }
     {

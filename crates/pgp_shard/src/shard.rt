@@ -3,16 +3,15 @@
 ghost use Rattle.std.specs.Prelude.{◌≡◌, ◌≢◌, ℕ, ◌+◌, ◌<◌, ◌≤◌, [], ◌∷◌, List, ◌++◌, drop, min, take, length, map, is_some, option_copied, option_map, false, true, None, Some, Err, IsOk, IfOk, IfSome, OnOk, OnErr};
 ghost use Rattle.std.specs.Arc.{arc_value};
 ghost use Rattle.pgp_ids.specs.declared.ask_refusal.AskRefusal.TheVariants.{UnknownGroup, Memory};
-ghost use Rattle.pgp_ids.specs.declared.entry.Entry.{Entry as AnyEntry};
 ghost use Rattle.pgp_map.specs.Pools.{has_group};
 ghost use Rattle.pgp_group.specs.Entries.{incs_of};
 ghost use Rattle.pgp_group.specs.Touched.{view_at};
 ghost use Rattle.pgp_group.specs.View.{scratch};
 ghost use Rattle.pgp_log.specs.Fits.{is_closed, fits};
-ghost use Rattle.pgp_shard.specs.kept.Groups.{AreOwnGroupsOf, CanReadOn, IsKeptBeside, marks_of, shard_with};
+ghost use Rattle.pgp_shard.specs.kept.Groups.{AreOwnGroupsOf, AreWorkedAt, CanReadOn, IsKeptBeside, OfNextBeside, marks_of, shard_with};
 ghost use Rattle.pgp_log.specs.Log.{HasInc, IsFrontOf, epoch_of, is_legal};
 ghost use Rattle.pgp_shard.specs.Running.{IsReading};
-ghost use Rattle.pgp_shard.specs.Shard.{opening_shard, having_read, having_read_all, having_read_front, HasReadFewer, HasReadSame, HasReadSome, shard_of, is_own, is_marked, AreMarked, MarksOnlyTouched, IsUnmarked, AreUnmarked};
+ghost use Rattle.pgp_shard.specs.Shard.{opening_shard, having_read, having_read_all, having_read_front, HasReadFewer, HasReadSame, HasReadSome, shard_of, is_own, is_marked, AreMarked, HaveChanged, MarksOnlyTouched, IsUnmarked, AreUnmarked, WorksOutMarks};
 
 use super::copies::copy_at;
 use super::groups::Groups;
@@ -98,7 +97,7 @@ impl ShardState {
     }
 
     /// Reads the next entry. Where what follows from the front is there, it stays there. The entry takes no mark away, and marks
-    /// only groups that it touches. Without memory for the entry, the shard has read what it had before.
+    /// only groups that it touches. No group is worked out. Without memory for the entry, the shard has read what it had before.
     pub fn absorb(&mut self, entry: &Arc<Entry>) -> Result<(), AllocError>
         requires { fits self.old.front (arc_value entry.now) ≡ None }
         ensures ok { OnOk result (HasReadSame (having_read self.old (arc_value entry.now)) self.new) }
@@ -152,6 +151,7 @@ impl ShardState {
         ensures wants_marked { result ≡ Err Memory → is_some self.old.marks ≡ true → is_marked self.old pg.now ≡ true }
         ensures same { HasReadSame self.old self.new }
         ensures marks { result ≢ Err Memory → IsUnmarked pg.now self.old self.new }
+        ensures worked { result ≢ Err Memory → WorksOutMarks self.old self.new }
     {
         let mut groups = take_or_make(
             self.alloc,
@@ -194,6 +194,7 @@ impl ShardState {
             → has_group (incs_of self.old.front) pg ≡ true }
         ensures same { HasReadSame self.old self.new }
         ensures marks { result ≢ Err Memory → IsUnmarked pg self.old self.new }
+        ensures worked { result ≢ Err Memory → WorksOutMarks self.old self.new }
     {
         self.work_out(&pg)?;
         self.copy(&pg)
@@ -234,6 +235,7 @@ impl ShardState {
     pub fn renew(&mut self, max: usize) -> Result<usize, AllocError>
         ensures same { HasReadSame self.old self.new }
         ensures marks { OnOk result (AreUnmarked max self.old self.new) }
+        ensures worked { OnOk result (WorksOutMarks self.old self.new) }
         ensures left { IfOk result (λ left. IfSome self.new.marks (λ marks. left ≡ length marks)) }
         ensures wants { OnErr result (HasInc self.old.front) }
         ensures wants_marked { OnErr result (IfSome self.old.marks (λ marks. 0 < min max (length marks))) }
@@ -248,6 +250,27 @@ impl ShardState {
         let left = groups.renew(max, count);
         self.groups = Some(groups);
         left
+    }
+
+    /// The groups that may have changed since the shard had read this many entries, each once, in the order in which the map got
+    /// them: those that have to be worked out, and those that were when more were read. Each other group says what it said. It is
+    /// out of memory only where an incremental was read. What the shard has read stays, and so do the marks, which are there.
+    pub fn changed_since(&mut self, count: usize) -> Result<Vec<PgId>, AllocError>
+        ensures same { HasReadSame self.old self.new }
+        ensures marks { OnOk result (AreUnmarked 0 self.old self.new) }
+        ensures worked { OnOk result (WorksOutMarks self.old self.new) }
+        ensures changed { IfOk result (λ ids. HaveChanged count self.new ids.items) }
+        ensures wants { OnErr result (HasInc self.old.front) }
+    {
+        let groups = take_or_make(
+            self.alloc,
+            self.owner,
+            self.front.as_slice(),
+            &mut self.groups,
+        )?;
+        let newer = groups.newer(count);
+        self.groups = Some(groups);
+        newer
     }
 }
 
@@ -274,6 +297,7 @@ fn take_or_make(
     requires { IsKeptBeside owner (map arc_value entries.now) kept.old }
     ensures is { IfOk result (AreOwnGroupsOf owner (map arc_value entries.now)) }
     ensures marks { IfOk result (λ groups. AreMarked (shard_with owner (map arc_value entries.now) kept.old) (marks_of groups)) }
+    ensures worked { IfOk result (AreWorkedAt (shard_with owner (map arc_value entries.now) kept.old)) }
     ensures taken { kept.new ≡ None }
     ensures wants { OnErr result (HasInc (map arc_value entries.now)) }
     ensures wants_away { OnErr result (kept.old ≡ None) }
@@ -287,10 +311,9 @@ fn take_or_make(
 /// What is kept beside the entries when the next one is read, if anything is. Without memory for the entry it is given up.
 fn read_on(owner: Owner, kept: Option<Groups>, entry: &Entry) -> Result<Option<Groups>, AllocError>
     requires { CanReadOn owner kept entry.now }
-    ensures is { IfOk result (λ left. (log : List AnyEntry) → IsKeptBeside owner log kept → fits log entry.now ≡ None
-        → IsKeptBeside owner (log ++ entry.now ∷ []) left) }
-    ensures marks { IfOk result (λ left. (log : List AnyEntry) → IsKeptBeside owner log kept → fits log entry.now ≡ None
-        → MarksOnlyTouched entry.now (shard_with owner log kept) (shard_with owner (log ++ entry.now ∷ []) left)) }
+    ensures is { IfOk result (λ left. OfNextBeside owner kept entry.now (λ log. IsKeptBeside owner (log ++ entry.now ∷ []) left)) }
+    ensures marks { IfOk result (λ left. OfNextBeside owner kept entry.now
+        (λ log. MarksOnlyTouched entry.now (shard_with owner log kept) (shard_with owner (log ++ entry.now ∷ []) left))) }
 {
     let Some(mut groups) = kept else {
         return Ok(None);

@@ -289,6 +289,32 @@ static void worked(void) {
     CHECK(pgp_close(&copy) == PGP_DONE);
 }
 
+// The groups that may have changed: those that were touched since they were asked for, and those that were asked for since.
+static void changed(void) {
+    pgp_session copy = PGP_SESSION;
+    pgp_group room[2] = {{7, 7}, {7, 7}};
+    size_t count = 99, length;
+    pgp_view view;
+    static const char step[] = "{\"op\":\"inc\",\"epoch\":4}";
+    pgp_info info = {.pool = 1, .osd = 1, .stamp = 2, .last_update_epoch = 1, .last_update = 2, .complete = true};
+    CHECK(pgp_changed(&copy, 0, room, 2, &count) == PGP_NOT_OPEN && count == 0 && room[0].pool == 7);
+    CHECK(MADE(pgp_open(&copy)) == PGP_DONE && MADE(pgp_changed(&copy, 9, room, 2, &count)) == PGP_DONE && count == 0);
+    CHECK(pgp_close(&copy) == PGP_DONE && MADE(pgp_open_copy(&copy, &session)) == PGP_DONE);
+    CHECK(MADE(pgp_changed(&copy, 6, room, 0, &count)) == PGP_ROOM_TOO_SMALL && count == 1 && room[0].pool == 7);
+    CHECK(MADE(pgp_changed(&copy, 6, room, 2, &count)) == PGP_DONE && count == 1 && room[0].pool == 1 && room[0].pg == 0 && room[1].pool == 7);
+    CHECK(MADE(pgp_ask(&copy, 1, 0, &view)) == PGP_DONE && view.count == 6);
+    CHECK(MADE(pgp_changed(&copy, 5, room, 2, &count)) == PGP_DONE && count == 1);
+    CHECK(MADE(pgp_changed(&copy, 6, room, 2, &count)) == PGP_DONE && count == 0);
+    CHECK(MADE(pgp_line(&copy, (const uint8_t *)step, strlen(step), (uint8_t *)answer, sizeof answer - 1, &length)) == PGP_DONE);
+    answer[length] = 0;
+    CHECK(has("\"ok\":\"inc\"") && MADE(pgp_changed(&copy, 6, room, 2, &count)) == PGP_DONE && count == 0);
+    CHECK(MADE(pgp_submit_info(&copy, &info)) == PGP_DONE && MADE(pgp_changed(&copy, 8, room, 2, &count)) == PGP_DONE && count == 1);
+    CHECK(MADE(pgp_ask(&copy, 1, 0, &view)) == PGP_DONE && view.count == 8);
+    CHECK(MADE(pgp_changed(&copy, 7, room, 2, &count)) == PGP_DONE && count == 1);
+    CHECK(MADE(pgp_changed(&copy, 8, room, 2, &count)) == PGP_DONE && count == 0);
+    CHECK(pgp_close(&copy) == PGP_DONE);
+}
+
 // A part of a member's log in values has the answer of its line.
 static void entries(void) {
     pgp_report report = {.pool = 1, .pg = 0, .osd = 1, .slot = 0, .stamp = 3};
@@ -611,6 +637,7 @@ static void stepped(void) {
     CHECK(MADE(pgp_open(&session)) == PGP_DONE);
     outage();
     worked();
+    changed();
     remains();
     entries();
     CHECK(pgp_close(&session) == PGP_DONE);

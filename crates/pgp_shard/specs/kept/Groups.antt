@@ -1,7 +1,8 @@
 -- What follows for a shard from the entries that it has read: the map that they make, and the shard's groups (this project's
 -- own choice).
-use Rattle.std.specs.Prelude.{◌≡◌, ℕ, ◌++◌, ◌&&◌, List, [], ◌∷◌, slice_get, set, Option, None, Some, IfSome, is_some, option_map, Result, OnOk, OnErr, Bool, true, false, length, if◌then◌else◌}
+use Rattle.std.specs.Prelude.{◌≡◌, ℕ, ◌++◌, ◌&&◌, not, List, [], ◌∷◌, slice_get, set, Option, None, Some, IfSome, is_some, option_map, Result, OnOk, OnErr, Bool, true, false, length, if◌then◌else◌}
 use Rattle.std.specs.HashMap as hash
+use Rattle.std.specs.Option.{option_map_or}
 use Rattle.std.specs.declared.alloc.AllocError.{AllocError}
 use Rattle.pgp_ids.specs.declared.entry.Entry.{Entry}
 use Rattle.pgp_ids.specs.declared.entry.Entry.TheVariants as entry
@@ -14,10 +15,10 @@ use Rattle.pgp_group.specs.Entries.{incs_of}
 use Rattle.pgp_group.specs.GroupHistory.{makes}
 use Rattle.pgp_group.specs.Touched.{is_touched}
 use Rattle.pgp_log.specs.Fits.{fits}
-use Rattle.pgp_shard.specs.kept.KeptGroup.{AreAllMarked, AreKeptOf, IsStep, ids_of, lacks_view, marks_in}
+use Rattle.pgp_shard.specs.kept.KeptGroup.{AreAllMarked, AreKeptOf, IsStep, ids_of, lacks_view, marks_in, worked_in}
 use Rattle.pgp_shard.specs.kept.Rows.{AreRowsOf, IsRowOf}
 use Rattle.pgp_log.specs.Log.{is_legal}
-use Rattle.pgp_shard.specs.Shard.{Shard, is_among, is_own}
+use Rattle.pgp_shard.specs.Shard.{Shard, is_among, is_own, worked_at}
 use Rattle.pgp_log.specs.declared.before.MapBefore.{MapBefore}
 use Rattle.pgp_shard.specs.declared.groups.Groups.{Groups}
 use Rattle.pgp_shard.specs.declared.kept_group.KeptGroup.{KeptGroup}
@@ -54,9 +55,14 @@ keeps pg groups = is_among pg (ids_of groups.kept.items)
 abbrev pub KeepsAll : Groups → Groups → Type 0
 KeepsAll before after = (pg : PgId) → keeps pg before ≡ true → keeps pg after ≡ true
 
--- each group that was marked is marked still
-abbrev pub KeepsMarks : Groups → Groups → Type 0
-KeepsMarks before after = (pg : PgId) → is_among pg (marks_of before) ≡ true → is_among pg (marks_of after) ≡ true
+-- when the group was last worked out
+abbrev pub worked_of : Groups → PgId → ℕ
+worked_of groups pg = worked_at (worked_in groups.kept.items) pg
+
+-- each group that was marked is marked still, and one that isn't was last worked out when it was before
+pub record KeepsMarks (before after : Groups) : Type 0 where
+  pub marks : (pg : PgId) → is_among pg (marks_of before) ≡ true → is_among pg (marks_of after) ≡ true
+  pub worked : (pg : PgId) → is_among pg (marks_of after) ≡ false → worked_of after pg ≡ worked_of before pg
 
 -- each group that was kept is kept still; what was marked is marked still; and if all were marked, all are
 pub record HasStill (before after : Groups) : Type 0 where
@@ -101,9 +107,20 @@ pub record AreOwnGroupsOf (owner : Owner) (log : List Entry) (groups : Groups) :
 abbrev pub OfOwnLog : Groups → (Owner → List Entry → Type 0) → Type 0
 OfOwnLog groups P = (owner : Owner) (log : List Entry) → AreOwnGroupsOf owner log groups → P owner log
 
--- they follow still from each log of this many entries from which they followed before
+-- this holds of each log from which the owner's groups follow, and that takes the entry next
+abbrev pub OfNextOwn : Owner → Groups → Entry → (List Entry → Type 0) → Type 0
+OfNextOwn owner groups new P = (log : List Entry) → AreOwnGroupsOf owner log groups → fits log new ≡ None → P log
+
+-- no group comes to be marked; those that are no more were worked out by this many entries, and each other was when it was
+pub record RenewsMarks (count : ℕ) (before after : Groups) : Type 0 where
+  pub marks : (pg : PgId) → is_among pg (marks_of after) ≡ true → is_among pg (marks_of before) ≡ true
+  pub worked : (pg : PgId) → worked_of after pg
+      ≡ (if is_among pg (marks_of before) && not (is_among pg (marks_of after)) then count else worked_of before pg)
+
+-- they follow still from each log of this many entries from which they followed before, as some are worked out
 abbrev pub FollowStill : ℕ → Groups → Groups → Type 0
-FollowStill count before after = OfOwnLog before (λ owner log. length log ≡ count → AreOwnGroupsOf owner log after)
+FollowStill count before after =
+    OfOwnLog before (λ owner log. length log ≡ count → AreOwnGroupsOf owner log after × RenewsMarks count before after)
 
 -- the map has an incremental that comes next in the log; the owner's groups that the map before has are kept, and only groups
 -- of the owner that the map after has
@@ -185,6 +202,10 @@ pub record IsKeptBeside (owner : Owner) (log : List Entry) (groups : Option Grou
   pub legal : is_legal log ≡ true
   pub groups_are : IfSome groups (AreOwnGroupsOf owner log)
 
+-- this holds of each legal log from which follows what the shard keeps beside it, and that takes the entry next
+abbrev pub OfNextBeside : Owner → Option Groups → Entry → (List Entry → Type 0) → Type 0
+OfNextBeside owner groups new P = (log : List Entry) → IsKeptBeside owner log groups → fits log new ≡ None → P log
+
 -- Some legal log, from which follows what the shard keeps beside it, takes the entry next.
 pub record CanReadOn (owner : Owner) (groups : Option Groups) (new : Entry) : Type 0 where
   pub log : List Entry
@@ -198,4 +219,9 @@ shard_with owner log groups = record {
   shard = owner.shard;
   shards = owner.shards;
   marks = option_map marks_of groups;
+  worked = option_map_or (λ kept. worked_in kept.kept.items) groups [];
 }
+
+-- the groups were last worked out when the shard says
+abbrev pub AreWorkedAt : Shard → Groups → Type 0
+AreWorkedAt s groups = (pg : PgId) → worked_of groups pg ≡ worked_at s.worked pg

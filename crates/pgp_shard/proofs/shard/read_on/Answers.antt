@@ -1,3 +1,4 @@
+use Rattle.pgp_shard.proofs.Common.{[], ◌∷◌, ◌++◌, Option, Some, refl, sym, subst, MarksOnlyTouched, shard_with, Groups}
 use Rattle.pgp_shard.proofs.KeptBesideLemmas.{groups-there, marks-away}
 use Rattle.pgp_log.proofs.LogLemmas.{legal-snoc}
 use Rattle.pgp_shard.proofs.shard.read_on.Goals as goal
@@ -16,3 +17,16 @@ returns-clause-is c = λ log is fit. record {
   legal = legal-snoc log c.args.entry.now is.legal fit;
   groups_are = c.in_ok-absorb.ensures.ok log (groups-there c.args.owner log c.args.kept c.in-Some.groups is c.in-Some.is) fit;
 }
+
+pub returns-clause-marks : goal.returns-clause-marks
+returns-clause-marks c = λ log is fit.
+    let owner = c.args.owner in
+    let new = c.args.entry.now in
+    let done = c.in_ok-absorb.ensures in
+    subst (λ (o : Option Groups). MarksOnlyTouched new (shard_with owner log o) (shard_with owner (log ++ new ∷ []) (Some c.absorb.new.self))) (sym c.in-Some.is)
+    (record {
+      kept = done.kept.marks;
+      others = done.marks log (groups-there owner log c.args.kept c.in-Some.groups is c.in-Some.is) fit;
+      there = refl;
+      worked = done.kept.worked;
+    })

@@ -62,7 +62,7 @@ pub returns-clause-wants_there : goal.returns-clause-wants_there
 returns-clause-wants_there g c is =
     let after = c.work_out.new.self in
     lacks_there _ _ c.args.self.now c.absorb_to.new.self
-    (record { front = after.front; shard = after.shard; shards = after.shards; marks = after.marks; seen = _ }) c.longer-target.result c.newest-newest.result _ c.args.q.now c.args.pg.now
+    (record { front = after.front; shard = after.shard; shards = after.shards; marks = after.marks; worked = after.worked; seen = _ }) c.longer-target.result c.newest-newest.result _ c.args.q.now c.args.pg.now
     c.longer-target.ensures.which c.self.view_is c.newest-newest.ensures.last
     (seen_by _ _ _ c.self-2.view_is c.in_ok-absorb_to.ensures.on.seen_is)
     c.in_ok-absorb_to.ensures.on.front_is c.in_ok-absorb_to.ensures.ok c.in_ok-absorb_to.ensures.marks

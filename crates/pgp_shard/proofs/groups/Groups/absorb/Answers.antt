@@ -6,6 +6,7 @@ use Rattle.pgp_shard.proofs.KeptLemmas.{kept-untold}
 use Rattle.pgp_log.proofs.SharedLemmas.{ok-two}
 use Rattle.pgp_shard.proofs.MarksLemmas.{pool-left}
 use Rattle.pgp_shard.proofs.OwnGroupsLemmas.{own-told, step-ends}
+use Rattle.pgp_shard.proofs.WorkedLemmas.{keeps-none, keeps-on}
 use Rattle.pgp_log.proofs.SharedLemmas.{on_err}
 use Rattle.pgp_shard.proofs.groups.Groups.absorb.Goals as goal
 
@@ -34,7 +35,8 @@ returns-in_ok-absorb_inc-in-Inc c =
       marks = on_ok_weaker c.add_pools.result
           (λ given log is fit pg untouched. given pg (pool-left log inc pg untouched) ∙ c.in_ok-absorb_inc-in-Inc.ensures.marks owner log is fit pg untouched)
           c.add_pools.ensures.marks;
-      kept = on_ok_weaker c.add_pools.result (λ still pg was. still.kept pg (c.in_ok-absorb_inc-in-Inc.ensures.kept pg was)) c.add_pools.ensures.still;
+      kept = on_ok_weaker c.add_pools.result
+          (λ still. keeps-on c.args.self.now c.absorb_inc.new.self c.add_pools.new.self c.in_ok-absorb_inc-in-Inc.ensures.kept still.kept) c.add_pools.ensures.still;
       marked = on_ok_weaker c.add_pools.result (λ still all. still.marked (c.in_ok-absorb_inc-in-Inc.ensures.marked all)) c.add_pools.ensures.still;
       wants = on_err c.add_pools.result _ (λ log is. inc-after log (entry.Inc inc) inc refl);
     })
@@ -76,3 +78,6 @@ returns-in-Close-clause-ok c = λ log is fit.
     let none : inc_of new ≡ None = ap inc_of c.in-Close.is in
     own-told c.args.owner log new old old none fit refl
     (groups-on log _ old old.map (λ place kept at. kept-untold log new kept none (ap (λ (e : Entry). is_touched log e kept.pg) c.in-Close.is)) is.groups_are) refl is
+
+pub returns-in-Close-clause-kept : goal.returns-in-Close-clause-kept
+returns-in-Close-clause-kept c = keeps-none c.args.self.now

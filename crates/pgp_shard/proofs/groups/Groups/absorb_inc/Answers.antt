@@ -1,4 +1,4 @@
-use Rattle.pgp_shard.proofs.Common.{sym, ◌∙◌, incs_of, Groups, on_ok_weaker}
+use Rattle.pgp_shard.proofs.Common.{refl, sym, ◌∙◌, incs_of, Groups, on_ok_weaker}
 use Rattle.pgp_ids.specs.declared.entry.Entry.TheVariants as entry
 use Rattle.pgp_shard.proofs.GroupsLemmas.{at-places, marked-there}
 use Rattle.pgp_shard.proofs.OwnGroupsLemmas.{groups-pass, groups-step, step-begins}
@@ -60,7 +60,13 @@ returns-clause-marks c =
     c.pass_on.ensures
 
 pub returns-clause-kept : goal.returns-clause-kept
-returns-clause-kept c = on_ok_weaker c.pass_on.result (λ given. given.kept) c.pass_on.ensures
+returns-clause-kept c = on_ok_weaker c.pass_on.result (λ given. record { marks = given.kept.marks; worked = given.kept.worked }) c.pass_on.ensures
 
 pub returns-clause-marked : goal.returns-clause-marked
 returns-clause-marked c = on_ok_weaker c.pass_on.result (λ given. given.marked) c.pass_on.ensures
+
+pub returns-then-changes_nothing-clause-kept : goal.returns-then-changes_nothing-clause-kept
+returns-then-changes_nothing-clause-kept c = record { marks = λ pg was. was; worked = λ pg unmarked. refl }
+
+pub returns-then-moves_none-clause-kept : goal.returns-then-moves_none-clause-kept
+returns-then-moves_none-clause-kept c = record { marks = λ pg was. was; worked = λ pg unmarked. refl }

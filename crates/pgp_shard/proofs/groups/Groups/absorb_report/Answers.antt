@@ -1,9 +1,10 @@
-use Rattle.pgp_shard.proofs.Common.{◌≡◌, [], ◌∷◌, ◌++◌, Some, true, refl, sym, ◌∙◌, slice_get, All-set, on_ok_weaker, is_same_group, incs_of, lacks_view, Groups, KeptGroup}
+use Rattle.pgp_shard.proofs.Common.{◌≡◌, [], ◌∷◌, ◌++◌, Some, true, true≢false, refl, sym, ◌∙◌, slice_get, All-set, on_ok_weaker, is_same_group, incs_of, lacks_view, Groups, KeptGroup}
 use Rattle.std.specs.HashMap as hash
 use Rattle.pgp_log.proofs.FitsLemmas.{nothing_ahead}
 use Rattle.pgp_shard.proofs.GroupsLemmas.{groups-anew, groups-on, ids-set, kept-at, kept-within, missing-group, other-group, place-holds, row-within}
 use Rattle.pgp_shard.proofs.KeptLemmas.{kept-inc, kept-untold}
 use Rattle.pgp_shard.proofs.MarksLemmas.{another, marks-set, marks-set-still, ok-anyhow}
+use Rattle.pgp_shard.proofs.WorkedLemmas.{keeps-none, keeps-set}
 use Rattle.pgp_shard.proofs.OwnGroupsLemmas.{own-told}
 use Rattle.pgp_log.proofs.SharedLemmas.{on_err}
 use Rattle.pgp_shard.proofs.groups.Groups.absorb_report.Goals as goal
@@ -36,7 +37,10 @@ returns-in-Some c =
           taken.ok;
       marks = ok-anyhow c.absorb_report-taken.result _
           (λ other differs. marks-set old.kept.items place kept after other at taken.pg (another pg kept.pg other (place-holds old pg place kept c.requires is at) differs));
-      kept = ok-anyhow c.absorb_report-taken.result _ (λ other was. marks-set-still old.kept.items place kept after other at taken.pg (λ _. taken.marked) was);
+      kept = ok-anyhow c.absorb_report-taken.result _ (record {
+        marks = λ other was. marks-set-still old.kept.items place kept after other at taken.pg (λ _. taken.marked) was;
+        worked = λ other unmarked. keeps-set old.kept.items place kept after other at taken.pg (λ there. absurd (true≢false (sym taken.marked ∙ there))) unmarked;
+      });
       marked = ok-anyhow c.absorb_report-taken.result _ (All-set (λ (k : KeptGroup). lacks_view k ≡ true) old.kept.items place after taken.marked);
       wants = on_err c.absorb_report-taken.result _ (λ owner log own. kept-inc log kept (own.groups_are.each.each place kept at));
     }
@@ -49,3 +53,6 @@ returns-in-None-clause-ok c = λ owner log none fit untouched own.
     own-told owner log new old old none fit refl
     (groups-on log (log ++ new ∷ []) old old.map
     (λ place kept at. kept-untold log new kept none (untouched kept.pg (missing-group old c.args.pg.now place kept c.requires missing at))) own.groups_are) refl own
+
+pub returns-in-None-clause-kept : goal.returns-in-None-clause-kept
+returns-in-None-clause-kept c = keeps-none c.args.self.now

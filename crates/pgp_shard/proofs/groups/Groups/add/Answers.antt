@@ -1,8 +1,9 @@
-use Rattle.pgp_shard.proofs.Common.{◌≡◌, true, false, List, [], ◌∷◌, ◌++◌, sym, ap, ◌∙◌, subst, All-push, PgId, then_with, has_group, is_same_group, incs_of, keeps, AreAllMarked, ids_of, lacks_view, marks_in, is_among, on_ok_weaker, HasOneMore, Groups, KeptGroup}
+use Rattle.pgp_shard.proofs.Common.{◌≡◌, true, false, List, [], ◌∷◌, ◌++◌, sym, ap, ◌∙◌, subst, All-push, PgId, then_with, has_group, is_same_group, incs_of, keeps, AreAllMarked, ids_of, lacks_view, marks_in, worked_in, is_among, worked_at, on_ok_weaker, HasOneMore, Groups, KeptGroup}
 use Rattle.pgp_ids.specs.declared.entry.Entry.TheVariants as entry
 use Rattle.pgp_shard.proofs.GroupsLemmas.{groups-more, keeps-found, keeps-last, keeps-others}
 use Rattle.pgp_shard.proofs.KeptLemmas.{step-fine}
 use Rattle.pgp_shard.proofs.MarksLemmas.{marks-push, marks-push-still, other-pool}
+use Rattle.pgp_shard.proofs.WorkedLemmas.{keeps-none, worked-push}
 use Rattle.pgp_shard.proofs.OwnGroupsLemmas.{absent-before, keeps-still, next-has_group, only-more}
 use Rattle.pgp_shard.proofs.groups.Groups.add.Goals as goal
 
@@ -44,10 +45,16 @@ returns c =
       own = on_ok_weaker c.keep.result (λ more log inc is own there. here more) c.keep.ensures;
       still = on_ok_weaker c.keep.result (λ more. record {
         groups_are = keeps-still old new pg (here more) (others more);
-        kept = λ other was. ap (λ (l : List KeptGroup). is_among other (marks_in l)) more.items ∙ marks-push-still old.kept.items kept other was;
+        kept = record {
+          marks = λ other was. ap (λ (l : List KeptGroup). is_among other (marks_in l)) more.items ∙ marks-push-still old.kept.items kept other was;
+          worked = λ other unmarked. ap (λ (l : List KeptGroup). worked_at (worked_in l) other) more.items ∙ worked-push old.kept.items kept other begun.marked;
+        };
         marked = λ all. subst AreAllMarked (sym more.items) (All-push (λ (k : KeptGroup). lacks_view k ≡ true) old.kept.items kept all begun.marked);
       }) c.keep.ensures;
       marks = on_ok_weaker c.keep.result (λ more other differs.
           ap (λ (l : List KeptGroup). is_among other (marks_in l)) more.items ∙ marks-push old.kept.items kept other (ap (is_same_group other) begun.pg ∙ other-pool pg other differs))
           c.keep.ensures;
     }
+
+pub returns-then-contains_key-clause-still : goal.returns-then-contains_key-clause-still
+returns-then-contains_key-clause-still c = record { groups_are = λ pg was. was; kept = keeps-none c.args.self.now; marked = λ all. all }

@@ -1,4 +1,5 @@
 use Rattle.pgp_shard.proofs.Common.{refl, ◌∙◌, arith, then_with, incs_of, Groups}
+use Rattle.pgp_shard.proofs.WorkedLemmas.{keeps-none}
 use Rattle.pgp_shard.proofs.OwnGroupsLemmas.{pool-more, still-on}
 use Rattle.pgp_shard.proofs.groups.Groups.add_pool.Goals as goal
 
@@ -12,7 +13,7 @@ pub loop-number-init : goal.loop-number-init
 loop-number-init c = record {
   is = λ log inc made is. is;
   own = λ log inc made is pg same below. absurd (omega arith);
-  still = record { groups_are = λ pg was. was; kept = λ pg was. was; marked = λ all. all };
+  still = record { groups_are = λ pg was. was; kept = keeps-none c.args.self.now; marked = λ all. all };
   marks = λ other differs. refl;
 }
 

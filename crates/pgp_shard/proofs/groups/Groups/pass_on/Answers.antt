@@ -2,6 +2,7 @@ use Rattle.pgp_shard.proofs.Common.{◌≡◌, ◌+◌, ◌<◌, List, [], ◌�
 use Rattle.pgp_ids.specs.declared.entry.Entry.TheVariants as entry
 use Rattle.pgp_shard.proofs.GroupsLemmas.{ids-set, marked-there}
 use Rattle.pgp_shard.proofs.MarksLemmas.{marks-set, marks-set-still}
+use Rattle.pgp_shard.proofs.WorkedLemmas.{keeps-on, keeps-set}
 use Rattle.pgp_tables.proofs.Common.{same_group}
 use Rattle.pgp_shard.proofs.RowLemmas.{each-set, passed-stays, rows-set}
 use Rattle.pgp_shard.proofs.groups.Groups.pass_on.Goals as goal
@@ -78,7 +79,10 @@ loop-place-preserved c =
           marks-set groups i item new pg at c.absorb_inc.ensures.pg
           (λ same. done.marks log (are.each i item first) step (ap (is_touched log (entry.Inc inc)) (sym (same_group pg item.pg same)) ∙ untouched))
           ∙ so_far.marks log are step pg untouched;
-      kept = λ pg was. marks-set-still groups i item new pg at c.absorb_inc.ensures.pg done.marked (so_far.kept pg was);
+      kept = keeps-on c.args.self.now now _ so_far.kept (record {
+        marks = λ pg was. marks-set-still groups i item new pg at c.absorb_inc.ensures.pg done.marked was;
+        worked = λ pg unmarked. keeps-set groups i item new pg at c.absorb_inc.ensures.pg done.stays unmarked;
+      });
       marked = λ all.
           let marked : AreAllMarked groups = so_far.marked all in
           All-set (λ (k : KeptGroup). lacks_view k ≡ true) groups i new

@@ -3,12 +3,13 @@ use Rattle.pgp_shard.proofs.KeptLemmas.{kept-inc}
 use Rattle.pgp_shard.proofs.MarksLemmas.{pg_of, renewing-leaves, renewing-passes, renewing-renews, renewing-starts, some-marked, unmarked_by}
 use Rattle.pgp_shard.proofs.RowLemmas.{beside-row}
 use Rattle.pgp_shard.proofs.PassingLemmas.{front-fails, front-passes, passing-fails}
+use Rattle.pgp_shard.proofs.WorkedLemmas.{renews-more, renews-none}
 use Rattle.pgp_log.proofs.SharedLemmas.{on_err}
 use Rattle.pgp_shard.proofs.groups.Groups.renew.Goals as goal
 use Rattle.pgp_shard.proofs.groups.Groups.renew.Goals.{then-index+then-more-gt0+in_ok-renew_at, then-index+else-more-gt0, else-index}
 
 pub loop-place-init : goal.loop-place-init
-loop-place-init c = record { places = c.requires; long = refl; is = λ owner log are long. are; rest = λ at from. refl; renewing = renewing-starts c.args.max }
+loop-place-init c = record { places = c.requires; long = refl; is = λ owner log are long. (are, renews-none c.args.count c.args.self.now); rest = λ at from. refl; renewing = renewing-starts c.args.max }
 
 pub loop-place-preserved : goal.loop-place-preserved
 loop-place-preserved c =
@@ -30,7 +31,10 @@ loop-place-preserved c =
           rw (w.self-is, w.more-is, w.left-is) (record {
             places = w.in_ok-renew_at.ensures.at;
             long = ap length one.kept ∙ length-set groups i one.after ∙ so_far.long;
-            is = λ owner log are long. w.in_ok-renew_at.ensures.is owner log (so_far.is owner log are long) long;
+            is = λ owner log are long.
+                let before = so_far.is owner log are long in
+                let after = w.in_ok-renew_at.ensures.is owner log before.0 long in
+                (after.0, renews-more c.args.count c.args.self.now now w.renew_at.new.self before.1 after.1);
             rest = λ place from. ap (λ (l : List KeptGroup). slice_get l place) one.kept ∙ get-set_other groups i place one.after (λ same. omega arith) ∙ so_far.rest place (omega arith);
             renewing =
                 rw (front-passes lacks_view pg_of first i item was (sym beside.marked ∙ w.if-index.true), one.kept, take_more_set groups i one.after (omega (arith, within, long)), passing-fails lacks_view pg_of (take i groups) one.after (unmarked_by one.after.view one.view))
@@ -66,7 +70,10 @@ returns-in_err-renew_at c =
     let was : slice_get first c.loop-place.place ≡ Some one.before = sym (so_far.rest c.loop-place.place (omega arith)) ∙ one.there in
     let some : 0 < length (marks_in first) = some-marked first c.loop-place.place one.before was one.wants in
     record {
-      is = λ owner log are long. c.in_err-renew_at.ensures.is owner log (so_far.is owner log are long) long;
+      is = λ owner log are long.
+          let before = so_far.is owner log are long in
+          let after = c.in_err-renew_at.ensures.is owner log before.0 long in
+          (after.0, renews-more c.args.count c.args.self.now c.loop-place.self c.renew_at.new.self before.1 after.1);
       marks = search rules;
       left = search rules;
       wants = on_err c.from_residual.result _ (λ owner log are. kept-inc log one.before (are.groups_are.each.each c.loop-place.place one.before was));

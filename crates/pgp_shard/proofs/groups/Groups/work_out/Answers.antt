@@ -4,6 +4,7 @@ use Rattle.pgp_shard.proofs.GroupsLemmas.{keeps-found, place-within}
 use Rattle.pgp_shard.proofs.KeptLemmas.{kept-inc}
 use Rattle.pgp_shard.proofs.MarksLemmas.{marked-at, marks-asked, marks-elsewhere}
 use Rattle.pgp_shard.proofs.OwnGroupsLemmas.{found-own}
+use Rattle.pgp_shard.proofs.WorkedLemmas.{renews-none}
 use Rattle.pgp_log.proofs.SharedLemmas.{on_err}
 use Rattle.pgp_shard.proofs.groups.Groups.work_out.Goals as goal
 
@@ -46,3 +47,6 @@ returns-in_default-clause-marks c = marks-elsewhere c.args.self.now c.args.pg.no
 
 pub returns-in_default-clause-there : goal.returns-in_default-clause-there
 returns-in_default-clause-there c = λ owner log are own. found-own owner log c.args.self.now c.args.pg.now None (sym c.find.ensures ∙ c.in_default.is) are own
+
+pub returns-in_default-clause-is : goal.returns-in_default-clause-is
+returns-in_default-clause-is c = λ owner log are long. (are, renews-none c.args.count c.args.self.now)
