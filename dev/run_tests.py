@@ -28,7 +28,8 @@ In this order, each part with its count and its seconds:
   a Ceph cluster                    nine devices go through an outage, as fetch and record keep it, and come back as plan says
                                     (check_against_ceph.py --operator --short)
   allocations refused               each allocation refused in turn: of a short run, with and without workers, of an explanation, of
-                                    a compaction and of a join (refuse_allocations.py), of a test of the engine (refuse_in_tests.py)
+                                    a compaction and of a join (refuse_allocations.py), of a test of the engine, of the feed and of
+                                    a shard (refuse_in_tests.py)
   library for C, built              the static library, over what the gate proved (build_c_library.sh)
   library for C                     its scripts, calls, examples and names, and programs in five languages that are killed and
                                     started again (check_c_library.py)
@@ -75,7 +76,8 @@ REFUSED_RUNS = (  # in which each allocation is refused: a script, and what is d
     ("a join", ("examples/flaps.jsonl", "compact", "--join")),
 )
 REFUSED_TESTS = (  # in which each allocation is refused: a crate of tests, and its tests that make a call once more then
-    ("pgp_thread_tests", ("engine::growths::each_call_can_be_made_again",)),
+    ("pgp_thread_tests", ("engine::growths::each_call_can_be_made_again", "feed::each_call_of_a_feed_can_be_made_again")),
+    ("pgp_tests", ("shard_growths::each_call_of_a_shard_can_be_made_again",)),
 )
 MOST_SECONDS = 5400  # for all parts except the gate
 DEBIAN_PYTHON = shutil.which("python3", path="/usr/bin") or sys.executable  # which has python3-rados, where Ceph is

@@ -13,6 +13,8 @@ mod hashes;
 #[cfg(test)]
 mod judged_intervals;
 #[cfg(test)]
+mod shard_growths;
+#[cfg(test)]
 mod shards;
 #[cfg(test)]
 mod straw2;

@@ -7,3 +7,5 @@
 mod count;
 #[cfg(test)]
 mod engine;
+#[cfg(test)]
+mod feed;
