@@ -6,14 +6,14 @@ use Rattle.pgp_compact.specs.Compacted.{compacted}
 use Rattle.pgp_core.specs.Added.{log_of_lines}
 use Rattle.pgp_core.specs.Lines.{lines_of}
 use Rattle.pgp_core.specs.Session.{LogAndAnswer}
-use Rattle.pgp_join.specs.Alike.{AreAlike}
+use Rattle.pgp_join.specs.Bound.{IsJoinedLog}
 use Rattle.pgp_c.specs.Exports.{put_into, put_status}
 use Rattle.pgp_c.specs.Status.{status_number}
 use Rattle.pgp_c.specs.declared.status.Status.TheVariants.{NoLines, NoMemory, NotOpen}
 
 -- the log that these lines make, read up to version 3, may stand for the log where that is compacted
 abbrev pub StandFor : (log : List Entry) (text : List ℕ) → Type 0
-StandFor log text = AreAlike (compacted log) (log_of_lines Three (lines_of text))
+StandFor log text = IsJoinedLog (compacted log) (log_of_lines Three (lines_of text))
 
 -- such lines are the session's answer
 pub record HasJoined (was now : LogAndAnswer) (old new : List ℕ) (len status : ℕ) : Type 0 where

@@ -1,11 +1,16 @@
 -- Logs that are alike are answered alike.
-use Rattle.pgp_group.proofs.Common.{◌≡◌, ℕ, List, ◌++◌, Some, is_some, true, ap, sym, ◌∙◌, subst, option_and_then, option_map, map_some, same_Some, some_is, refl, arith, AnyCode, Entry, PgId, History, are_checked, incs_of, group_history, group_in, group_with, les, past, scratch, view_of}
+use Rattle.pgp_group.proofs.Common.{◌≡◌, ℕ, List, ◌++◌, Some, is_some, true, ap, sym, ◌∙◌, subst, option_and_then, option_map, map_some, same_Some, some_is, refl, inl, inr, length, arith, AnyCode, Entry, PgId, History, are_checked, incs_of, group_history, group_in, group_with, les, past, scratch, view_of}
 use Rattle.pgp_ids.specs.declared.view.View.{View}
+use Rattle.pgp_lines.specs.declared.command.format.Format.TheVariants.{Three}
+use Rattle.pgp_core.specs.Added.{log_of_lines}
+use Rattle.pgp_core.specs.Lines.{lines_of}
 use Rattle.pgp_group.proofs.ViewLemmas.{history_there, scratch_there}
 use Rattle.pgp_log.proofs.LogLemmas.{legal-checked}
 use Rattle.pgp_log.specs.Locate.{group_in_pool, place_of_object, place_with}
 use Rattle.pgp_log.specs.Log.{is_legal}
 use Rattle.pgp_join.specs.Alike.{AgreeOn, AreAlike, AreAlikeViews, IsAlike, IsAlikeView, ending_from}
+use Rattle.pgp_join.specs.Bound.{IsJoinedLog}
+use Rattle.pgp_join.specs.Text.{MayStandFor}
 use Rattle.pgp_join.proofs.FollowLemmas.{alike-go, follows, follows-other}
 use Rattle.pgp_join.proofs.MapLemmas.{has_group-alike}
 use Rattle.pgp_join.proofs.ViewLemmas.{les-is, members-alike, view-is}
@@ -64,6 +69,9 @@ itself log legal = record {
   };
 }
 
+pub joined-itself : (log : List Entry) → is_legal log ≡ true → IsJoinedLog log log
+joined-itself log legal = record { alike = itself log legal; few = inl refl }
+
 chain-groups : (a b c : List Entry) (ab : AgreeOn a b) (bc : AgreeOn b c) (pg : PgId) (h now : History AnyCode) → group_history (incs_of a) pg ≡ Some h → group_history (incs_of c) pg ≡ Some now → IsAlike (group_with a pg h) (group_with c pg now)
 chain-groups a b c ab bc pg h now is is' =
     let there : is_some (group_history (incs_of b) pg) ≡ true =
@@ -99,4 +107,17 @@ chain a b c ab bc = record {
     reports_are = bc.agree.reports_are ∙ ab.agree.reports_are;
     groups_are = chain-groups a b c ab.agree bc.agree;
   };
+}
+
+-- ---- joined logs
+
+-- lines for the entries of a joined log, with as many entries and incrementals
+pub joined-lines : (log joined : List Entry) (text : List ℕ) (entries : ℕ) → IsJoinedLog log joined → entries ≡ length joined → MayStandFor joined text entries (length (incs_of joined))
+    → IsJoinedLog log (log_of_lines Three (lines_of text))
+joined-lines log joined text entries are as_long stands = record {
+  alike = chain log joined (log_of_lines Three (lines_of text)) are.alike stands.alike;
+  few = elim are.few [
+    | inl same ↦ inl (sym stands.entries_are ∙ as_long ∙ same)
+    | inr few ↦ inr (omega (arith, few, stands.few))
+  ];
 }

@@ -4,5 +4,6 @@ pub mod StepLemmas
 pub mod FollowLemmas
 pub mod AnswerLemmas
 pub mod PassedLemmas
+mod BoundLemmas
 mod SameLemmas
 mod CheckLemmas

@@ -8,11 +8,12 @@ use Rattle.std.specs.List.{cons_option, list_any}
 use Rattle.std.specs.Cmp.{booleans_Decides, unsigned_Decides}
 use Rattle.std.specs.Cmp.Derive.Mapped.{pointwise-map}
 use Rattle.std.specs.Cmp.Lexicographic.{bytes_decides, pointwise, pointwise_decides}
+use Rattle.pgp_ids.specs.Member.{is_same_member}
+use Rattle.pgp_ids.specs.Version.{is_same_version}
 use Rattle.pgp_ids.specs.declared.log_entry.Change.{Change}
 use Rattle.pgp_ids.specs.declared.log_entry.Change.TheVariants.{Modify, Delete}
 use Rattle.pgp_ids.specs.declared.log_entry.LogEntry.{LogEntry}
 use Rattle.pgp_ids.specs.declared.member.Member.{Member}
-use Rattle.pgp_ids.specs.declared.membership.Membership.{Membership}
 use Rattle.pgp_ids.specs.declared.past.Past.{Past}
 use Rattle.pgp_ids.specs.declared.report.Info.{Info}
 use Rattle.pgp_ids.specs.declared.report.Report.{Report}
@@ -21,7 +22,7 @@ use Rattle.pgp_interval.specs.SameMembers.{is_same}
 use Rattle.pgp_interval.proofs.Same.{eq-is_same, is_same-eq}
 use Rattle.pgp_map.specs.Pools.{is_same_group}
 use Rattle.pgp_map.proofs.AlikeLemmas.{both_Decide, groups_Decides}
-use Rattle.pgp_join.specs.Same.{is_same_change, is_same_entry, is_same_info, is_same_member, is_same_past, is_same_report, is_same_version}
+use Rattle.pgp_join.specs.Same.{is_same_change, is_same_entry, is_same_info, is_same_past, is_same_report}
 
 pub member_Decides : (a b : Member) → Decides (is_same_member a b) (a ≡ b)
 member_Decides a b =
@@ -79,13 +80,10 @@ report_Decides a b =
       λ equal. s3.1 (((ap (λ (x : Report). x.pg) equal, ap (λ (x : Report). x.member) equal), ap (λ (x : Report). x.stamp) equal), ap (λ (x : Report). x.log) equal),
     )
 
-members_Decides : (a b : Membership) → Decides (is_same a b) (a ≡ b)
-members_Decides a b = (is_same-eq a b, eq-is_same a b)
-
 pub past_Decides : (a b : Past) → Decides (is_same_past a b) (a ≡ b)
 past_Decides a b =
     let s1 = both_Decide (nat_eq a.first b.first) (nat_eq a.last b.last) (unsigned_Decides a.first b.first) (unsigned_Decides a.last b.last) in
-    let s2 = both_Decide (nat_eq a.first b.first && nat_eq a.last b.last) (is_same a.members b.members) s1 (members_Decides a.members b.members) in
+    let s2 = both_Decide (nat_eq a.first b.first && nat_eq a.last b.last) (is_same a.members b.members) s1 (is_same-eq a.members b.members, eq-is_same a.members b.members) in
     let s3 = both_Decide (nat_eq a.first b.first && nat_eq a.last b.last && is_same a.members b.members) (beq a.rw b.rw) s2 (booleans_Decides a.rw b.rw) in (
       λ passed. let h = s3.0 passed in λ i. record { first = h.0.0.0 i; last = h.0.0.1 i; members = h.0.1 i; rw = h.1 i },
       λ equal. s3.1 (((ap (λ (x : Past). x.first) equal, ap (λ (x : Past). x.last) equal), ap (λ (x : Past). x.members) equal), ap (λ (x : Past). x.rw) equal),

@@ -1,3 +1,4 @@
 pub mod Alike
+pub mod Bound
 pub mod Same
 pub mod Text

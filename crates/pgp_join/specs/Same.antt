@@ -2,22 +2,16 @@
 use Rattle.std.specs.Prelude.{◌&&◌, Bool, true, false, nat_eq}
 use Rattle.std.specs.Cmp.Lexicographic.{pointwise}
 use Rattle.std.proofs.Math.Bool.{beq}
+use Rattle.pgp_ids.specs.Member.{is_same_member}
+use Rattle.pgp_ids.specs.Version.{is_same_version}
 use Rattle.pgp_ids.specs.declared.log_entry.Change.{Change}
 use Rattle.pgp_ids.specs.declared.log_entry.Change.TheVariants.{Modify, Delete}
 use Rattle.pgp_ids.specs.declared.log_entry.LogEntry.{LogEntry}
-use Rattle.pgp_ids.specs.declared.member.Member.{Member}
 use Rattle.pgp_ids.specs.declared.past.Past.{Past}
 use Rattle.pgp_ids.specs.declared.report.Info.{Info}
 use Rattle.pgp_ids.specs.declared.report.Report.{Report}
-use Rattle.pgp_ids.specs.declared.version.Version.{Version}
 use Rattle.pgp_interval.specs.SameMembers.{is_same}
 use Rattle.pgp_map.specs.Pools.{is_same_group}
-
-abbrev pub is_same_member : Member → Member → Bool
-is_same_member a b = nat_eq a.osd b.osd && nat_eq a.slot b.slot
-
-abbrev pub is_same_version : Version → Version → Bool
-is_same_version a b = nat_eq a.epoch b.epoch && nat_eq a.v b.v
 
 abbrev pub is_same_info : Info → Info → Bool
 is_same_info a b =

@@ -1,12 +1,15 @@
 //! A shorter log that may stand for a log.
 
-ghost use Rattle.std.specs.Prelude.{◌≡◌, true, map, IfOk, IfSome};
+ghost use Rattle.std.specs.Prelude.{◌≡◌, ◌≤◌, true, length, map, IfOk, IfSome};
 ghost use Rattle.std.specs.Arc.{arc_value};
+ghost use Rattle.pgp_group.specs.Entries.{incs_of};
 ghost use Rattle.pgp_log.specs.Log.{is_legal};
 ghost use Rattle.pgp_join.specs.Alike.{AreAlike};
+ghost use Rattle.pgp_join.specs.Bound.{IsJoinedLog, most_incs};
 
 use super::alike::are_alike;
 use super::pieces::{Piece, pieces_of, shared};
+use super::starts::inc_count;
 use pgp_core::Log;
 use pgp_ids::{Entry, Refusal};
 use pgp_log::Judge;
@@ -14,10 +17,10 @@ use std::alloc::{AllocError, Global};
 use std::sync::Arc;
 
 /// The entries of a log that may stand for this legal log: incrementals between which nothing begins that an answer can tell apart
-/// are one, and the others are shared. Where no such log is found that is shorter, they are the entries of this one.
+/// are one, and the others are shared. Where no such log is found that is short enough, they are the entries of this one.
 pub fn join(alloc: Global, entries: &[Arc<Entry>]) -> Result<Vec<Arc<Entry>>, AllocError>
     requires { is_legal (map arc_value entries.now) ≡ true }
-    ensures { IfOk result (λ joined. AreAlike (map arc_value entries.now) (map arc_value joined.items)) }
+    ensures { IfOk result (λ joined. IsJoinedLog (map arc_value entries.now) (map arc_value joined.items)) }
 {
     let mut log = Log::over(alloc, entries)?;
     match shorter(alloc, &mut log)? {
@@ -26,15 +29,15 @@ pub fn join(alloc: Global, entries: &[Arc<Entry>]) -> Result<Vec<Arc<Entry>>, Al
     }
 }
 
-/// The entries of a shorter log that may stand for this one; nothing where none is found.
+/// The entries of a log that may stand for this one and is short enough; nothing where none is found.
 fn shorter(alloc: Global, log: &mut Log) -> Result<Option<Vec<Arc<Entry>>>, AllocError>
-    ensures { IfOk result (λ found. IfSome found (λ joined. AreAlike log.old (map arc_value joined.items))) }
+    ensures { IfOk result (λ found. IfSome found (λ joined. IsJoinedLog log.old (map arc_value joined.items))) }
 {
-    let Some(pieces) = pieces_of(alloc, log)? else {
+    let Some(shorter) = pieces_of(alloc, log)? else {
         return Ok(None);
     };
-    let joined = entries_of(alloc, log.entries(), pieces.as_slice())?;
-    Ok(may_stand_for(alloc, log, joined.as_slice())?.then_some(joined))
+    let joined = entries_of(alloc, log.entries(), shorter.pieces.as_slice())?;
+    Ok(may_stand_for(alloc, log, joined.as_slice(), shorter.most_incs)?.then_some(joined))
 }
 
 /// The entries of the pieces of a log.
@@ -57,11 +60,19 @@ fn entries_of(
     Ok(joined)
 }
 
-/// Whether the entries are a legal log that may stand for this one.
-fn may_stand_for(alloc: Global, log: &mut Log, others: &[Arc<Entry>]) -> Result<bool, AllocError>
-    ensures { IfOk result (λ may. may ≡ true → AreAlike log.old (map arc_value others.now)) }
+/// Whether the entries are a legal log that may stand for this one, of at most so many incrementals.
+fn may_stand_for(
+    alloc: Global,
+    log: &mut Log,
+    others: &[Arc<Entry>],
+    most_incs: usize,
+) -> Result<bool, AllocError>
+    ensures alike { IfOk result (λ may. may ≡ true → AreAlike log.old (map arc_value others.now)) }
+    ensures few { IfOk result (λ may. may ≡ true → length (incs_of (map arc_value others.now)) ≤ most_incs) }
+    ensures same { log.new ≡ log.old }
 {
-    if !are_legal(alloc, others)? {
+    let count = inc_count(alloc, others)?;
+    if most_incs < count || !are_legal(alloc, others)? {
         return Ok(false);
     }
     let mut other = Log::over(alloc, others)?;

@@ -10,6 +10,7 @@
 #![tactic(auto)]
 
 mod alike;
+mod bound;
 mod joined;
 pub mod laws;
 mod line;
@@ -23,4 +24,4 @@ pub use alike::are_alike;
 pub use joined::join;
 pub use line::entry_line;
 pub use lines::{entries_if_alike, joined_lines};
-pub use pieces::{Piece, pieces_of};
+pub use pieces::{Piece, Shorter, pieces_of};

@@ -1,8 +1,10 @@
 //! The pieces of a shorter log: entries of the log as they stand, and incrementals that stand for a run of them.
 
-ghost use Rattle.std.specs.Prelude.{◌≡◌, map, IfOk};
+ghost use Rattle.std.specs.Prelude.{◌≡◌, ◌≤◌, map, IfOk, IfSome};
 ghost use Rattle.std.specs.Arc.{arc_value};
+ghost use Rattle.pgp_join.specs.Bound.{most_incs};
 
+use super::bound::Bound;
 use super::made::Run;
 use super::starts::{Placed, Starts, incs_of};
 use pgp_core::Log;
@@ -10,7 +12,6 @@ use pgp_ids::{Entry, Incremental, OsdId};
 use pgp_log::inc_of;
 use pgp_map::{MapFault, OsdMap};
 use std::alloc::{AllocError, Global};
-use std::collections::HashSet;
 use std::sync::Arc;
 
 /// A piece of a shorter log.
@@ -22,32 +23,52 @@ pub enum Piece {
     Made(Arc<Entry>),
 }
 
-/// The pieces of a shorter log that is meant to be alike; nothing where there is none.
+/// A shorter log that is meant to be alike.
+#[derive(Drop)]
+pub struct Shorter {
+    pub pieces: Vec<Piece>,
+    /// So many incrementals it has at most, if joining works as it should.
+    pub most_incs: usize,
+}
+
+/// A shorter log that is meant to be alike; nothing where there is none.
 ///
 /// Runs of incrementals between which nothing begins that matters become one: in the first epoch of the run, with the map at its end.
-/// The reports stay, in their order. That the log of the pieces is alike is not promised: [`are_alike`](super::are_alike) finds out.
-pub fn pieces_of(alloc: Global, log: &mut Log) -> Result<Option<Vec<Piece>>, AllocError>
-    ensures { log.new ≡ log.old }
+/// The reports stay, in their order. That the log of the pieces is alike is not promised, nor that it has no more incrementals than it
+/// should: [`are_alike`](super::are_alike) and a count find out.
+pub fn pieces_of(alloc: Global, log: &mut Log) -> Result<Option<Shorter>, AllocError>
+    ensures most { IfOk result (λ found. IfSome found (λ shorter. shorter.most_incs ≤ most_incs log.old)) }
+    ensures same { log.new ≡ log.old }
 {
     let entries = shared(alloc, log.entries())?;
     let incs = incs_of(alloc, entries.as_slice())?;
-    let map = log.map();
+    let bound = Bound::of(alloc, log, incs.as_slice())?;
+    shorter_within(alloc, log.map(), entries.as_slice(), incs.as_slice(), bound)
+}
+
+/// A shorter log in place of one of this map, these entries and incrementals; nothing where there is none.
+fn shorter_within(
+    alloc: Global,
+    map: &OsdMap,
+    entries: &[Arc<Entry>],
+    incs: &[Placed<'_>],
+    bound: Bound,
+) -> Result<Option<Shorter>, AllocError>
+    ensures { IfOk result (λ found. IfSome found (λ shorter. shorter.most_incs ≡ bound.most_incs)) }
+{
     let keeps_destroyed = entries.iter().any(|entry| is_of_destroyed(map, entry));
-    let starts = Starts::of(alloc, log, incs.as_slice(), keeps_destroyed)?;
+    let starts = Starts::of(alloc, map, incs, &bound.begun, keeps_destroyed)?;
     if starts.are_all() {
         return Ok(None);
     }
-    let devices = devices_of(alloc, incs.as_slice())?;
-    let mut pieces = Pieces::new(alloc, devices);
-    if !pieces.put_all(
-        entries.as_slice(),
-        incs.as_slice(),
-        &starts,
-        keeps_destroyed,
-    )? {
+    let mut pieces = Pieces::new(alloc, bound.devices);
+    if !pieces.put_all(entries, incs, &starts, keeps_destroyed)? {
         return Ok(None);
     }
-    Ok(Some(pieces.pieces))
+    Ok(Some(Shorter {
+        pieces: pieces.pieces,
+        most_incs: bound.most_incs,
+    }))
 }
 
 /// The entries, shared once more.
@@ -68,25 +89,6 @@ fn is_of_destroyed(map: &OsdMap, entry: &Entry) -> bool {
         Entry::Entries(report) => !map.exists(report.member.osd),
         Entry::Inc(_) | Entry::Close => false,
     }
-}
-
-/// The devices that ever boot, in ascending order.
-fn devices_of(alloc: Global, incs: &[Placed<'_>]) -> Result<Vec<OsdId>, AllocError> {
-    let mut known = HashSet::new(alloc);
-    for it in incs {
-        for osd in it.inc.up.as_slice() {
-            known.insert(*osd)?;
-        }
-    }
-    let mut devices = Vec::new(alloc);
-    for number in 0..=OsdId::MAX {
-        if let Some(osd) = OsdId::new(number)
-            && known.contains(&osd)
-        {
-            devices.push(osd)?;
-        }
-    }
-    Ok(devices)
 }
 
 /// The pieces so far, and the maps that they and the log make.

@@ -1,13 +1,14 @@
 //! Which incrementals of a log begin a run of which one is made.
 
-ghost use Rattle.std.specs.Prelude.{◌≡◌};
+ghost use Rattle.std.specs.Prelude.{◌≡◌, length, map, IfOk};
+ghost use Rattle.std.specs.Arc.{arc_value};
+ghost use Rattle.pgp_group.specs.Entries.{incs_of};
 
-use pgp_core::Log;
-use pgp_ids::{Entry, Epoch, Incremental, OsdId, PgId};
+use pgp_ids::{Entry, Epoch, Incremental, OsdId};
 use pgp_log::inc_of;
 use pgp_map::OsdMap;
 use std::alloc::{AllocError, Global};
-use std::collections::{HashMap, HashSet};
+use std::collections::HashSet;
 use std::sync::Arc;
 
 /// How many pg_temp lists a run may give: their text, with that of a tree and of all devices, is no longer than a line may be.
@@ -21,10 +22,9 @@ pub(crate) struct Placed<'a> {
 }
 
 /// The incrementals of a log, in its order.
-pub(crate) fn incs_of(
-    alloc: Global,
-    entries: &[Arc<Entry>],
-) -> Result<Vec<Placed<'_>>, AllocError> {
+pub(crate) fn incs_of(alloc: Global, entries: &[Arc<Entry>]) -> Result<Vec<Placed<'_>>, AllocError>
+    ensures { IfOk result (λ incs. map (λ placed. placed.inc.now) incs.items ≡ incs_of (map arc_value entries.now)) }
+{
     let mut incs = Vec::new(alloc);
     for (place, entry) in entries.iter().enumerate() {
         if let Some(inc) = inc_of(entry) {
@@ -34,6 +34,14 @@ pub(crate) fn incs_of(
     Ok(incs)
 }
 
+/// How many incrementals there are among the entries.
+pub(crate) fn inc_count(alloc: Global, entries: &[Arc<Entry>]) -> Result<usize, AllocError>
+    ensures { IfOk result (λ count. count ≡ length (incs_of (map arc_value entries.now))) }
+{
+    let incs = incs_of(alloc, entries)?;
+    Ok(incs.len())
+}
+
 /// Of each incremental of a log, by its place among them, whether it begins a run.
 #[derive(Drop)]
 pub(crate) struct Starts {
@@ -41,26 +49,21 @@ pub(crate) struct Starts {
 }
 
 impl Starts {
-    /// Those of the log whose incrementals are these. With `keeps_destroyed` the last incremental but one is a start too: devices that
-    /// are destroyed stay until the last one.
+    /// Those of the log of this map whose incrementals are these. Intervals that matter begin in the epochs `begun`. With
+    /// `keeps_destroyed` the last incremental but one is a start too: devices that are destroyed stay until the last one.
     pub fn of(
         alloc: Global,
-        log: &mut Log,
+        map: &OsdMap,
         incs: &[Placed<'_>],
+        begun: &HashSet<u32>,
         keeps_destroyed: bool,
-    ) -> Result<Self, AllocError>
-        ensures { log.new ≡ log.old }
-    {
+    ) -> Result<Self, AllocError> {
         let mut starts = Starts::of_ends(alloc, incs.len())?;
         if keeps_destroyed {
             starts.mark(incs.len().checked_sub(2));
         }
-        let mut places = HashMap::new(alloc);
-        for (place, it) in incs.iter().enumerate() {
-            places.insert(it.inc.epoch.number(), place)?;
-        }
-        starts.mark_intervals(log, &places)?;
-        starts.mark_boots(log.map(), incs);
+        starts.mark_begun(incs, begun);
+        starts.mark_boots(map, incs);
         starts.mark_many_lists(alloc, incs)?;
         starts.mark_first_deaths(alloc, incs)?;
         Ok(starts)
@@ -93,40 +96,13 @@ impl Starts {
         self.starts.iter().all(|start| *start)
     }
 
-    /// The intervals that matter of all groups begin at a start: the current one, and past ones that end with the last epoch in
-    /// which the group is known to have begun to serve, or later.
-    fn mark_intervals(
-        &mut self,
-        log: &mut Log,
-        places: &HashMap<u32, usize>,
-    ) -> Result<(), AllocError>
-        ensures { log.new ≡ log.old }
-    {
-        let groups = log.map().groups()?;
-        for pg in &groups {
-            self.mark_group(log, places, *pg)?;
-        }
-        Ok(())
-    }
-
-    fn mark_group(
-        &mut self,
-        log: &mut Log,
-        places: &HashMap<u32, usize>,
-        pg: PgId,
-    ) -> Result<(), AllocError>
-        ensures { log.new ≡ log.old }
-    {
-        let Some(view) = log.ask(pg)? else {
-            return Ok(());
-        };
-        self.mark(places.get(&view.first.number()).copied());
-        for interval in view.intervals.as_slice() {
-            if view.les <= interval.last {
-                self.mark(places.get(&interval.first.number()).copied());
+    /// Intervals that matter begin at a start.
+    fn mark_begun(&mut self, incs: &[Placed<'_>], begun: &HashSet<u32>) {
+        for (place, it) in incs.iter().enumerate() {
+            if begun.contains(&it.inc.epoch.number()) {
+                self.mark(Some(place));
             }
         }
-        Ok(())
     }
 
     /// The last boot of a device that is up is a start. So is the incremental before it, where the device was given up for lost after the

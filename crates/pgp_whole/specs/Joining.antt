@@ -7,13 +7,13 @@ use Rattle.pgp_core.specs.Lines.{lines_of}
 use Rattle.pgp_core.specs.Output.{FrontWent}
 use Rattle.pgp_core.specs.Run.{script_bounds}
 use Rattle.pgp_core.specs.Whole.{IsWholeScript}
-use Rattle.pgp_join.specs.Alike.{AreAlike}
+use Rattle.pgp_join.specs.Bound.{IsJoinedLog}
 use Rattle.pgp_whole.specs.Remaining.{compacted_text}
 use Rattle.pgp_whole.specs.declared.compact.Compaction.{Compaction}
 
 -- the log of this text may stand for that of the script where it is compacted
 abbrev pub StandsFor : (script text : List ℕ) → Type 0
-StandsFor script text = AreAlike (log_of_lines Three (lines_of (compacted_text Three script))) (log_of_lines Three (lines_of text))
+StandsFor script text = IsJoinedLog (log_of_lines Three (lines_of (compacted_text Three script))) (log_of_lines Three (lines_of text))
 
 -- how many entries the script has, and how many the text
 pub record HasJoinedCounts (script text : List ℕ) (counts : Compaction) : Type 0 where

@@ -1,11 +1,12 @@
 //! Joining incrementals of a script that no answer tells apart.
 
-ghost use Rattle.std.specs.Prelude.{◌≡◌, ◌≢◌, true, IfOk, IfSome, OnOk, OnErr};
+ghost use Rattle.std.specs.Prelude.{◌≡◌, ◌≢◌, ◌≤◌, true, IfOk, IfSome, OnOk, OnErr};
 ghost use Rattle.pgp_core.specs.Added.{log_of_lines};
 ghost use Rattle.pgp_core.specs.Lines.{lines_of};
 ghost use Rattle.pgp_core.specs.Run.{script_bounds};
 ghost use Rattle.pgp_core.specs.Whole.{GivesTooMuch};
 ghost use Rattle.pgp_lines.specs.declared.command.format.Format.TheVariants.{Three};
+ghost use Rattle.pgp_join.specs.Bound.{most_incs};
 ghost use Rattle.pgp_join.specs.Text.{MayStandFor};
 ghost use Rattle.pgp_whole.specs.Joining.{HasJoinedCounts, IsJoined, IsJoinedInPart, StandsFor};
 
@@ -21,7 +22,7 @@ use std::alloc::{AllocError, Global};
 /// and lines of version 3 in place of incrementals that no answer tells apart. Each has a line feed.
 ///
 /// What goes out and when is as in [`compact_script`](super::compact_script). Lines up to version 3 are read. Where no such log is
-/// found that is shorter, the lines that remain are written.
+/// found that is short enough, the lines that remain are written.
 pub fn join_script<R: Source, W: Sink>(
     alloc: Global,
     reader: &mut R,
@@ -63,29 +64,34 @@ fn joined(alloc: Global, script: &[u8]) -> Result<(Vec<u8>, Compaction), AllocEr
     }
 }
 
-/// Fewer lines whose log is alike that of these lines, and how many entries that has; nothing where none are found.
+/// Lines whose log may stand for that of these lines and is short enough, and how many entries that has; nothing where none are found.
 fn shorter(alloc: Global, text: &[u8]) -> Result<Option<(Vec<u8>, usize)>, AllocError>
-    ensures { IfOk result (λ found. IfSome found (λ made. MayStandFor (log_of_lines Three (lines_of text.now)) made.0.items made.1)) }
+    ensures { IfOk result (λ found. IfSome found (λ made.
+        MayStandFor (log_of_lines Three (lines_of text.now)) made.0.items made.1 (most_incs (log_of_lines Three (lines_of text.now))))) }
 {
     let mut read = read_entries(alloc, Format::Three, text)?;
-    let Some(lines) = fewer_lines(alloc, &mut read)? else {
+    let Some((lines, most_incs)) = fewer_lines(alloc, &mut read)? else {
         return Ok(None);
     };
-    match entries_if_alike(alloc, &mut read.log, lines.as_slice())? {
+    match entries_if_alike(alloc, &mut read.log, lines.as_slice(), most_incs)? {
         Some(kept) => Ok(Some((lines, kept))),
         None => Ok(None),
     }
 }
 
-/// The lines of a shorter log that is meant to be alike; nothing where there is none.
-fn fewer_lines(alloc: Global, read: &mut ScriptEntries) -> Result<Option<Vec<u8>>, AllocError>
-    ensures { read.new.log ≡ read.old.log }
+/// The lines of a shorter log that is meant to be alike, and how many incrementals it may have; nothing where there is none.
+fn fewer_lines(
+    alloc: Global,
+    read: &mut ScriptEntries,
+) -> Result<Option<(Vec<u8>, usize)>, AllocError>
+    ensures most { IfOk result (λ found. IfSome found (λ made. made.1 ≤ most_incs read.old.log)) }
+    ensures same { read.new.log ≡ read.old.log }
 {
-    let Some(pieces) = pieces_of(alloc, &mut read.log)? else {
+    let Some(shorter) = pieces_of(alloc, &mut read.log)? else {
         return Ok(None);
     };
-    let text = text_of_pieces(alloc, read.lines.as_slice(), pieces.as_slice())?;
-    Ok(Some(text))
+    let text = text_of_pieces(alloc, read.lines.as_slice(), shorter.pieces.as_slice())?;
+    Ok(Some((text, shorter.most_incs)))
 }
 
 /// The lines of the pieces, each with a line feed.
