@@ -295,11 +295,15 @@ typedef struct pgp_group {
 } pgp_group;
 
 /* Puts the groups that may have changed since the session's log had `since` entries into the room, each once, as the calls above
- * put a list: PGP_DONE, PGP_ROOM_TOO_SMALL, PGP_NO_MEMORY or PGP_NOT_OPEN. Of any other group pgp_ask and the calls of lists say what
- * they said then, except for count and epoch. It gives a group that an entry made or touched after the group was last asked for, or
- * worked out by pgp_work, and one for which that was with more entries than `since`. So a caller asks for each, and gives the count
- * of those answers the next time. After pgp_open_lines, pgp_open_copy and pgp_compact_log it gives all groups. The session stays as
- * it was. */
+ * put a list: PGP_DONE, PGP_ROOM_TOO_SMALL, PGP_NO_MEMORY or PGP_NOT_OPEN. There are at most 16,384. Of any other group pgp_ask and
+ * the calls of lists say what they said then, except for count and epoch. The session stays as it was.
+ *
+ * It gives a group that an entry made or touched (docs/RULES.md, "The log") after the group was last asked for, by pgp_ask, a call of
+ * lists or a line, or worked out by pgp_work; and one for which that was with more entries than `since`. After PGP_NO_MEMORY it may
+ * give all. So a caller begins with 0, asks for each group that it is given, and gives the least count of these answers the next time.
+ *
+ * `since` counts the entries of the log as it is now. A count from before pgp_compact_log, or of the session whose pgp_joined_lines
+ * this one was opened with, says nothing here: the caller begins with 0 again. In a copy by pgp_open_copy counts go on. */
 uint32_t pgp_changed(pgp_session *session, size_t since, pgp_group *room, size_t room_length, size_t *count);
 
 /* A device's weight. */
@@ -367,7 +371,8 @@ typedef struct pgp_bucket {
 /* A map incremental: what the line of op "inc" says, key by key. */
 typedef struct pgp_inc {
     uint32_t epoch;          /* the epoch to which it leads */
-    uint32_t after;          /* the epoch of the map that it changes. It is `epoch` less one, but in a session that reads version 3 */
+    uint32_t after;          /* the epoch of the map that it changes, 0 before the first. Only a session that reads version 3 takes
+                              * another one than `epoch` less one */
     const uint32_t *up;      /* devices that boot, 0 to 4095, as those of the next two lists */
     size_t up_length;
     const uint32_t *down;    /* devices that are taken down */
@@ -432,7 +437,7 @@ uint32_t pgp_submit_info(pgp_session *session, const pgp_info *info);
  * left out. From then on each answer about a group is the one that the whole log would give, except for its count of entries, and
  * what is told is taken or refused as by the whole log, except that there may be room again. At PGP_NO_MEMORY the log is as before;
  * there and at PGP_NOT_OPEN *left_out is 0. The answer to the last line is kept. The new log is made beside the old one: until it is
- * there, both take memory. */
+ * there, both take memory. pgp_changed takes no count from before. */
 uint32_t pgp_compact_log(pgp_session *session, size_t *left_out);
 
 /* Of each entry of the session's log whether pgp_compact_log would leave it in: puts 1 or 0 for each, in the order in which they were

@@ -1,6 +1,6 @@
 //! Opening a session with the log of another one.
 
-ghost use Rattle.std.specs.Prelude.{◌≡◌, IfOk};
+ghost use Rattle.std.specs.Prelude.{IfOk};
 ghost use Rattle.pgp_c.specs.Copy.{IsCopy, OpensCopy};
 
 use super::session::PgpSession;

@@ -1,0 +1,146 @@
+//! Calls that begin and end a session, tell it a line, and do its work ahead.
+
+ghost use Rattle.std.specs.Prelude.{◌≡◌, Some};
+ghost use Rattle.pgp_lines.specs.declared.command.format.Format.TheVariants.{Two};
+ghost use Rattle.pgp_c.specs.Copy.{OpensCopy};
+ghost use Rattle.pgp_c.specs.Exports.{Opens, Closes, Tells, Repeats, session_format};
+ghost use Rattle.pgp_c.specs.OpenLines.{OpensLines};
+ghost use Rattle.pgp_c.specs.Work.{Works};
+
+use super::VERSION;
+use super::copy::open_copy;
+use super::open::{open, session_format};
+use super::open_lines::open_lines;
+use super::room::put_out;
+use super::session::PgpSession;
+use super::status::Status;
+use super::work::work;
+use pgp_lines::Format;
+use std::alloc::Global;
+
+/// Opens a session with an empty log, which reads lines of versions 1 and 2.
+#[unsafe(no_mangle)]
+pub extern "C" fn pgp_open(alloc: Global, session: &mut PgpSession) -> u32
+    ensures { Opens (Some Two) session.old.held.session session.new.held.session result }
+{
+    open(alloc, session, Some(Format::Two))
+}
+
+/// Opens a session with an empty log, which reads lines up to the version of this number: 2 or 3.
+#[unsafe(no_mangle)]
+pub extern "C" fn pgp_open_format(alloc: Global, session: &mut PgpSession, format: u32) -> u32
+    ensures { Opens (session_format format) session.old.held.session session.new.held.session result }
+{
+    open(alloc, session, session_format(format))
+}
+
+/// Opens a session with the log that the lines of a text make, up to the version of this number, and puts into `refused` how many of
+/// them are refused.
+#[unsafe(no_mangle)]
+pub extern "C" fn pgp_open_lines(
+    alloc: Global,
+    session: &mut PgpSession,
+    format: u32,
+    text: &[u8],
+    refused: &mut usize,
+) -> u32
+    ensures { OpensLines (session_format format) text.now session.old.held.session session.new.held.session refused.new result }
+{
+    *refused = 0;
+    open_lines(alloc, session, session_format(format), text, refused)
+}
+
+/// Opens `copy` with the log of `session`. They share the entries, which nobody changes.
+#[unsafe(no_mangle)]
+pub extern "C" fn pgp_open_copy(
+    alloc: Global,
+    copy: &mut PgpSession,
+    session: &mut PgpSession,
+) -> u32
+    ensures { OpensCopy copy.old.held.session copy.new.held.session session.old.held.session session.new.held.session result }
+{
+    open_copy(alloc, copy, session)
+}
+
+/// Ends a session, and frees its memory.
+#[unsafe(no_mangle)]
+pub extern "C" fn pgp_close(alloc: Global, session: &mut PgpSession) -> u32
+    ensures { Closes session.old.held.session session.new.held.session result }
+{
+    match session.take(alloc) {
+        Some(_) => Status::Done.number(),
+        None => Status::NotOpen.number(),
+    }
+}
+
+/// Answers a line, which is given without its line feed. The answer is put at the start of `room` if it fits, and its length into
+/// `length`. The answer to a blank line has no bytes. A line feed within the line is a blank of JSON. Where the room is too small,
+/// the line has been answered all the same: else each entry would be judged twice.
+#[unsafe(no_mangle)]
+pub extern "C" fn pgp_line(
+    alloc: Global,
+    session: &mut PgpSession,
+    line: &[u8],
+    room: &mut [u8],
+    length: &mut usize,
+) -> u32
+    ensures { Tells session.old.held.session session.new.held.session line.now room.old room.new length.new result }
+{
+    let Some(mut opened) = session.take(alloc) else {
+        *length = 0;
+        return Status::NotOpen.number();
+    };
+    let told = opened.answer(line);
+    let put = put_out(opened.last_answer(), room, length);
+    session.put(opened);
+    match told {
+        Ok(()) => put.number(),
+        Err(_) => Status::NoMemory.number(),
+    }
+}
+
+/// Gives the answer to the last line again.
+#[unsafe(no_mangle)]
+pub extern "C" fn pgp_answer(
+    alloc: Global,
+    session: &mut PgpSession,
+    room: &mut [u8],
+    length: &mut usize,
+) -> u32
+    ensures { Repeats session.old.held.session session.new.held.session room.old room.new length.new result }
+{
+    let Some(opened) = session.take(alloc) else {
+        *length = 0;
+        return Status::NotOpen.number();
+    };
+    let put = put_out(opened.last_answer(), room, length);
+    session.put(opened);
+    put.number()
+}
+
+/// Does at most `max` steps of what the session's next questions would have to do, and puts into `left` how many are left.
+#[unsafe(no_mangle)]
+pub extern "C" fn pgp_work(
+    alloc: Global,
+    session: &mut PgpSession,
+    max: usize,
+    left: &mut usize,
+) -> u32
+    ensures { Works session.old.held.session session.new.held.session left.new result }
+{
+    *left = 0;
+    let Some(mut opened) = session.take(alloc) else {
+        return Status::NotOpen.number();
+    };
+    let status = work(&mut opened, max, left);
+    session.put(opened);
+    status
+}
+
+/// The version of the library as one number: 10,000 times its first part, plus 100 times its second, plus its third.
+#[unsafe(no_mangle)]
+pub extern "C" fn pgp_version() -> u32
+    ensures { result ≡ VERSION }
+{
+    VERSION
+}
