@@ -17,7 +17,8 @@
  *
  * A line and a name are as many bytes as is said: a NUL among them ends neither.
  *
- * Anything else that is wrong has a status. The library takes memory by malloc, realloc and free.
+ * Anything else that is wrong has a status. The library takes memory by malloc, realloc and free. In what was tried no call took more
+ * than 82 KB of stack, however long the log or a line: a thread with 256 KiB has enough.
  *
  * What takes long: pgp_open_lines, pgp_open_copy and pgp_compact_log read the whole log. So does the first question about a group
  * after one of them, and the first about each group works that out; pgp_work does it before, bit by bit. pgp_joined_lines works out
