@@ -12,8 +12,8 @@ use std::alloc::Global;
 use std::marker::Model;
 use std::ptr::null_mut;
 
-/// A pointer to a session on the heap, or null. Its type is that of bytes, since C never looks at what it points to.
-#[derive(Drop)]
+/// A pointer to a session on the heap, or null. Its type is that of bytes, since C never looks at what it points to. It isn't
+/// `Drop`, so that none is let go without its session: a box takes it back, or [`HeldSession::end`] says that there is none.
 #[repr(C)]
 pub struct HeldSession {
     at: *mut u8,
@@ -37,6 +37,13 @@ impl HeldSession {
             at: null_mut(),
             alloc,
         }
+    }
+
+    /// Lets go of null.
+    pub fn end(self)
+        requires { self.session ≡ None }
+    {
+        let HeldSession { at: _, alloc: _ } = self;
     }
 
     /// The pointer to what the box holds.

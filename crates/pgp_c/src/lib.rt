@@ -4,7 +4,7 @@
 //! The exported functions stand in `session_calls`, `log_calls` and `group_calls`. Each calls [`pgp_core::Session`], and its
 //! contract says what C sees. None starts a thread or takes a lock. None tests for a null pointer: what a reference points to is
 //! memory by its type. Except for the session, no struct of C has a `bool`, so each may hold any bytes before a call. Raw pointers
-//! stand in `held_session` alone: five small functions with proofs by hand.
+//! stand in `held_session` alone: six small functions with proofs by hand.
 #![tactic(auto)]
 
 mod ask;

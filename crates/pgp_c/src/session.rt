@@ -44,10 +44,8 @@ impl PgpSession {
             is_open: true,
             held: HeldSession::of(session),
         });
-        let PgpSession {
-            is_open: _,
-            held: _,
-        } = std::mem::replace(self, opened);
+        let PgpSession { is_open: _, held } = std::mem::replace(self, opened);
+        held.end();
     }
 }
 
