@@ -1,5 +1,5 @@
 -- What a set has into which the epochs are put in which intervals begin that matter.
-use Rattle.pgp_group.proofs.Common.{◌≡◌, ℕ, ◌+◌, ◌<◌, List, [], ◌∷◌, ◌++◌, Bool, true, false, ◌||◌, cond, nat_eq, nat_lt, Option, Some, None, is_some, refl, ap, sym, ◌∙◌, subst, Contains, flat_map, map, take, range_with_len, option_map, option_map_or, list_any-append, flat_map-push, Contains-nil, contains-flat_map, contains-map, flat_map-contains, last_where-found, eqb-true, true≢false, or-true, or-false, Entry, Incremental, PgId, PoolSpec, has_group, incs_of, last_where, scratch, with_sizes}
+use Rattle.pgp_group.proofs.Common.{◌≡◌, ℕ, ◌+◌, ◌<◌, List, [], ◌∷◌, ◌++◌, Bool, true, false, ◌||◌, cond, nat_eq, nat_lt, Option, Some, None, is_some, refl, ap, sym, ◌∙◌, subst, Contains, flat_map, take, range_with_len, option_map, option_map_or, list_any-append, flat_map-push, Contains-nil, contains-flat_map, contains-map, flat_map-contains, last_where-found, eqb-true, true≢false, or-true, or-false, Entry, Incremental, PgId, PoolSpec, has_group, incs_of, last_where, scratch, with_sizes}
 use Rattle.std.specs.Cmp.{unsigned_Decides}
 use Rattle.std.specs.Set.{IsUnion, is_member}
 use Rattle.std.proofs.lemmas.Bool.{ltb-true}

@@ -2,6 +2,7 @@
 use Rattle.pgp_group.proofs.Common.{◌≡◌, ℕ, ◌<◌, List, [], ◌∷◌, ◌++◌, true, false, Option, Some, None, nat_lt, length, refl, ap, sym, ◌∙◌, subst, arith, nat_tests, append-nil, filter_map-append, length-append, list_any-append, same_Some, AnyCode, Entry, Incremental, PgId, History, are_checked, epoch, map_fault, then_with, incs_of, infos_of, reports_of, device, group_history, group_with, les}
 use Rattle.std.specs.Prelude.{◌==◌}
 use Rattle.pgp_ids.specs.declared.pool.PoolSpec.{PoolSpec}
+use Rattle.pgp_lists.proofs.Lists.{empty-list}
 use Rattle.pgp_map.specs.FaultNumber.{refusal_of}
 use Rattle.pgp_map.specs.Pools.{pool, with_sizes}
 use Rattle.pgp_tables.specs.DeviceTable.{changed}
@@ -42,25 +43,21 @@ record IsEmpty (inc : Incremental) : Type 0 where
   temp : inc.temp ≡ []
   crush : inc.crush ≡ None
 
-none-in : {X : Type 0} (xs : List X) → (length xs == 0) ≡ true → xs ≡ []
-none-in [] none = refl
-none-in (x ∷ xs) none = grind (arith, nat_tests)
-
 not-filled : {X : Type 0} (xs : List X) → nat_lt 0 (length xs) ≡ false → xs ≡ []
 not-filled [] none = refl
 not-filled (x ∷ xs) none = grind (arith, nat_tests)
 
 is-empty : (inc : Incremental) → changes_nothing inc ≡ true → IsEmpty inc
 is-empty inc unchanging = record {
-  up = none-in inc.up (grind (arith, nat_tests));
-  down = none-in inc.down (grind (arith, nat_tests));
-  gone = none-in inc.gone (grind (arith, nat_tests));
+  up = empty-list inc.up (grind (arith, nat_tests));
+  down = empty-list inc.down (grind (arith, nat_tests));
+  gone = empty-list inc.gone (grind (arith, nat_tests));
   weight = not-filled inc.weight (grind (arith, nat_tests));
-  up_thru = none-in inc.up_thru (grind (arith, nat_tests));
-  lost = none-in inc.lost (grind (arith, nat_tests));
-  pools = none-in inc.pools (grind (arith, nat_tests));
-  sizes = none-in inc.sizes (grind (arith, nat_tests));
-  temp = none-in inc.temp (grind (arith, nat_tests));
+  up_thru = empty-list inc.up_thru (grind (arith, nat_tests));
+  lost = empty-list inc.lost (grind (arith, nat_tests));
+  pools = empty-list inc.pools (grind (arith, nat_tests));
+  sizes = empty-list inc.sizes (grind (arith, nat_tests));
+  temp = empty-list inc.temp (grind (arith, nat_tests));
   crush = nothing inc.crush (grind (arith, nat_tests));
 }
 
