@@ -1,12 +1,13 @@
 //! The intake and the shards, each under a lock.
 use crate::intake::Intake;
 use crate::naming::Naming;
-use crate::shard::Shard;
 use bell::Bell;
+use locked_shard::LockedShard;
 use std::marker::Model;
 use std::sync::Mutex;
 
 mod bell;
+mod locked_shard;
 mod locks;
 mod make;
 mod steps;
@@ -17,7 +18,7 @@ pub struct Engine<J: Naming> {
     intake: Mutex<Intake<J>>,
     // Rung by each submit that was taken.
     bell: Bell,
-    shards: Vec<Mutex<Shard<J>>>,
+    shards: Vec<LockedShard<J>>,
     workers: usize,
 }
 

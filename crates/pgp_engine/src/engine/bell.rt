@@ -29,6 +29,11 @@ impl Bell {
         rings
     }
 
+    /// It was rung since it was listened to.
+    pub fn was_rung(&self, rings: u32) -> bool {
+        low_half(self.rings.load(Ordering::SeqCst)) != rings
+    }
+
     /// Sleeps until it is rung, if it wasn't rung since it was listened to.
     pub fn sleep<R: Wait>(&self, rt: &R, rings: u32) {
         self.rings.park(rt, rings);

@@ -5,6 +5,7 @@ ghost use Rattle.pgp_log.specs.Log.{IsFrontOf};
 ghost use Rattle.pgp_feed.specs.Receipts.{entries_of, feed_of};
 ghost use Rattle.pgp_engine.specs.Shards.{Serves};
 
+use super::locked_shard::LockedShard;
 use crate::intake::Intake;
 use crate::naming::Naming;
 use crate::shard::Shard;
@@ -37,7 +38,7 @@ pub(super) fn intake_turn<'a, J: Naming, R: Wait>(
 /// shard's.
 pub(super) fn turn_of<'a, J: Naming, R: Wait>(
     rt: &R,
-    shards: &'a [Mutex<Shard<J>>],
+    shards: &'a [LockedShard<J>],
     number: usize,
 ) -> MutexGuard<'a, Shard<J>>
     requires { number < length shards.now }
@@ -45,7 +46,7 @@ pub(super) fn turn_of<'a, J: Naming, R: Wait>(
 {
     let shard = &shards[number];
     for _ in rt.forever() {
-        let turn = shard.lock(rt);
+        let turn = shard.turn_to_ask(rt);
         if turn.number() == number {
             return turn;
         }
@@ -56,7 +57,7 @@ pub(super) fn turn_of<'a, J: Naming, R: Wait>(
 /// A turn of the lock of the shard that answers for the group: the first turn is that shard's too.
 pub(super) fn shard_turn<'a, J: Naming, R: Wait>(
     rt: &R,
-    shards: &'a [Mutex<Shard<J>>],
+    shards: &'a [LockedShard<J>],
     pg: &PgId,
 ) -> MutexGuard<'a, Shard<J>>
     requires { 0 < length shards.now }
@@ -64,7 +65,7 @@ pub(super) fn shard_turn<'a, J: Naming, R: Wait>(
 {
     let shard = &shards[shard_of(shards.len(), pg)];
     for _ in rt.forever() {
-        let turn = shard.lock(rt);
+        let turn = shard.turn_to_ask(rt);
         if turn.serves(pg) {
             return turn;
         }

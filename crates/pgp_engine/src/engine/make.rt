@@ -12,6 +12,7 @@ ghost use Rattle.pgp_engine.specs.Fronts.{Names};
 
 use super::Engine;
 use super::bell::Bell;
+use super::locked_shard::LockedShard;
 use crate::client::Client;
 use crate::intake::Intake;
 use crate::naming::Naming;
@@ -26,7 +27,7 @@ fn make_shards<J: Naming>(
     alloc: Global,
     taps: &mut Vec<Tap>,
     count: usize,
-) -> Result<Vec<Mutex<Shard<J>>>, AllocError>
+) -> Result<Vec<LockedShard<J>>, AllocError>
     requires enough { count ≤ length taps.old.items }
     requires feed { All (λ tap. feed_of (last_of tap) ≡ J.feed) taps.old.items }
     ensures count { IfOk result (λ all. length all.items ≡ count) }
@@ -36,7 +37,7 @@ fn make_shards<J: Naming>(
     let mut all = Vec::with_capacity(alloc, count)?;
     for shard in 0..count {
         let tap = taps.pop().unwrap();
-        all.push(Mutex::new(Shard::start(alloc, shard, count, tap)))?;
+        all.push(LockedShard::new(Shard::start(alloc, shard, count, tap)))?;
     }
     Ok(all)
 }

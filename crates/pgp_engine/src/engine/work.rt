@@ -1,34 +1,77 @@
 //! How an engine's workers have its shards read on.
 ghost use Rattle.std.specs.Prelude.{◌≡◌, ◌<◌, ◌≤◌, ◌↔◌, None, Ok, IfOk, IfErr, IfSome};
+ghost use Rattle.pgp_log.specs.Fits.{is_closed};
+ghost use Rattle.pgp_feed.specs.Receipts.{entries_of, feed_of};
 ghost use Rattle.pgp_engine.specs.Faults.{fault_at};
-ghost use Rattle.pgp_engine.specs.Works.{IsEnd, IsStand};
+ghost use Rattle.logbook.specs.Pages.{Book};
+ghost use Rattle.pgp_engine.specs.Works.{IsEnd, IsRound};
 
 use super::Engine;
-use super::locks::turn_of;
 use crate::fault::AskFault;
 use crate::gate::Gate;
 use crate::naming::Naming;
 use pgp_feed::Receipt;
 use std::sync::{MutexGuard, Wait};
+use std::thread::yield_now;
 
 /// How many entries a shard reads at most in one turn of a worker. So whoever asks waits for no more of them than these. It bounds no
 /// time, since an incremental goes over all groups of the shard.
 const ENTRIES_A_TURN: usize = 64;
 
-/// How many groups a shard works out at most in one turn of a worker. Where it doesn't keep its groups yet, the first turn makes
-/// all of them first, from all that it has read.
-const GROUPS_A_TURN: usize = 16;
+/// How many groups a shard works out at most in one turn of a worker. So few that whoever asks has the lock soon. Where it doesn't
+/// keep its groups yet, the first turn makes all of them first, from all that it has read.
+const GROUPS_A_TURN: usize = 4;
 
-/// After how many rounds without an entry a lull begins. Between two of them the worker naps.
+/// After how many rounds without an entry a lull begins.
 const ROUNDS_TO_A_LULL: usize = 8;
 
-/// How far a shard has come, or several of them.
+/// What a worker found in a turn of a shard, or in a round of turns.
 #[derive(Drop)]
-pub(super) struct Stand {
-    /// What the one has read that has read least.
-    pub front: Receipt,
-    /// That front was closed.
-    pub closed: bool,
+pub(super) struct Round {
+    /// How many entries were read, of the shard that read most.
+    pub came: usize,
+    /// No shard was passed over.
+    pub is_whole: bool,
+    /// The receipt of the closed log, if each shard has read the Close.
+    pub end: Option<Receipt>,
+}
+
+impl Round {
+    /// The shard is passed over.
+    fn passed_over() -> Round
+        ensures { result.end ≡ None }
+    {
+        Round {
+            came: 0,
+            is_whole: false,
+            end: None,
+        }
+    }
+
+    /// Both.
+    fn and(self, other: Round) -> Round
+        ensures { (feed : Book) → IsRound feed other → IsRound feed result }
+    {
+        let Round {
+            came,
+            is_whole,
+            end,
+        } = self;
+        Round {
+            came: came.max(other.came),
+            is_whole: is_whole && other.is_whole,
+            end: if end.is_some() { other.end } else { None },
+        }
+    }
+}
+
+/// The receipt, if the front that it names was closed.
+fn end_in<J: Naming>(front: Receipt, closed: bool) -> Option<Receipt>
+    requires feed { feed_of front ≡ J.feed }
+    requires closed { closed ≡ is_closed (entries_of front) }
+    ensures { IfSome result (IsEnd J.feed) }
+{
+    if closed { Some(front) } else { None }
 }
 
 impl<J: Naming> Engine<J> {
@@ -36,11 +79,11 @@ impl<J: Naming> Engine<J> {
     /// read the Close, and answers the receipt of the closed log. There is none where no shard is of this seat. `Memory` and
     /// `NoReader` end the work, and leave the shards as far as they have read.
     ///
-    /// In each round every shard of the seat reads a few entries, in a turn of its own between the gate's two calls. Between the
-    /// turns the lock is free. After a few rounds in a row without an entry, with a nap after each, it is a lull: from then on,
-    /// until the next entry, each round ends with a turn in which one shard works out a few of its groups, the same one until
-    /// none is left there. Once none is left in any, the worker sleeps until the next submit. So while entries come, nobody works
-    /// out a group but who asks about it.
+    /// In each round every shard of the seat reads the next entries, as many as a turn may, in a turn of its own between the gate's
+    /// two calls. One that somebody has locked is passed over. Where there were fewer entries, the worker naps: so entries that come
+    /// one after the other are read many at a time. After a few rounds in a row without an entry it is a lull: until the next submit
+    /// the shards work out their groups, and once none is left, the worker sleeps. So while entries come, nobody works out a group
+    /// but who asks about it.
     pub fn work<R: Wait, G: Gate>(
         &self,
         rt: &R,
@@ -55,73 +98,108 @@ impl<J: Naming> Engine<J> {
         if self.shards.len() <= seat {
             return Ok(None);
         }
-        let mut read = 0;
         let mut quiet = 0;
-        // The shard whose groups come next. Past the last one, none is left.
-        let mut next = seat;
         for _ in rt.forever() {
-            let none_left = next >= self.shards.len();
-            let rings = self.bell.listen(none_left);
-            let shortest = self.read_on(rt, seat, gate)?;
-            if shortest.closed {
-                return Ok(Some(shortest.front));
+            let rings = self.bell.listen(quiet >= ROUNDS_TO_A_LULL);
+            let Round {
+                came,
+                is_whole,
+                end,
+            } = self.read_on(rt, seat, gate)?;
+            if let Some(end) = end {
+                return Ok(Some(end));
             }
-            let len = shortest.front.len();
-            if len != read {
-                read = len;
+            quiet = if came == 0 {
+                quiet.saturating_add(1)
+            } else {
+                0
+            };
+            if quiet > ROUNDS_TO_A_LULL {
                 quiet = 0;
-                next = seat;
-            } else if quiet < ROUNDS_TO_A_LULL {
-                quiet += 1;
+                self.renew_all(rt, seat, gate, rings)?;
+                if is_whole {
+                    self.bell.sleep(rt, rings);
+                }
+            } else if came < ENTRIES_A_TURN {
                 self.bell.nap(rt);
-            } else if none_left {
-                quiet = 0;
-                next = seat;
-                self.bell.sleep(rt, rings);
-            } else if self.renew(rt, next, gate)? {
-                next = next.saturating_add(self.workers);
             }
         }
         unreachable!()
     }
 
-    /// One turn of each shard of the seat, in which it reads on. It answers how far they have come. Of fronts of one log the
-    /// shortest is closed only where all are.
-    fn read_on<R: Wait, G: Gate>(&self, rt: &R, seat: usize, gate: &G) -> Result<Stand, AskFault>
+    /// One turn of each shard of the seat, in which it reads on.
+    fn read_on<R: Wait, G: Gate>(&self, rt: &R, seat: usize, gate: &G) -> Result<Round, AskFault>
         requires workers { seat < self.now.workers }
         requires shards { seat < self.now.shards }
-        ensures stand { IfOk result (IsStand J.feed) }
+        ensures round { IfOk result (IsRound J.feed) }
         ensures err { IfErr result (λ fault. fault_at fault ≡ None) }
     {
         let shards = self.shards.len();
-        let mut shortest = self.read(rt, seat, gate)?;
+        let mut round = self.read(rt, seat, gate)?;
         for shard in seat + 1..shards {
             if shard % self.workers == seat {
-                let stand = self.read(rt, shard, gate)?;
-                if stand.front.len() < shortest.front.len() {
-                    shortest = stand;
-                }
+                round = round.and(self.read(rt, shard, gate)?);
             }
         }
-        Ok(shortest)
+        Ok(round)
     }
 
     /// A turn of the shard's lock, in which it reads on.
-    fn read<R: Wait, G: Gate>(&self, rt: &R, shard: usize, gate: &G) -> Result<Stand, AskFault>
+    fn read<R: Wait, G: Gate>(&self, rt: &R, shard: usize, gate: &G) -> Result<Round, AskFault>
         requires { shard < self.now.shards }
-        ensures stand { IfOk result (IsStand J.feed) }
+        ensures round { IfOk result (IsRound J.feed) }
         ensures err { IfErr result (λ fault. fault_at fault ≡ None) }
     {
-        let mut turn = turn_of(rt, self.shards.as_slice(), shard);
+        let Some(turn) = self.shards[shard].turn_to_work() else {
+            return Ok(Round::passed_over());
+        };
+        let mut turn = turn;
         gate.enter(rt, shard);
+        let before = turn.receipt();
         let front = turn.read_some(ENTRIES_A_TURN);
         let closed = turn.is_closed();
         MutexGuard::unlock(turn);
         gate.left(rt, shard);
-        Ok(Stand {
-            front: front?,
-            closed,
+        let front = front?;
+        Ok(Round {
+            came: front.len().saturating_sub(before.len()),
+            is_whole: true,
+            end: end_in::<J>(front, closed),
         })
+    }
+
+    /// Has the shards of the seat work out their groups, a few of each in turn, until none is left in any or the bell is rung.
+    fn renew_all<R: Wait, G: Gate>(
+        &self,
+        rt: &R,
+        seat: usize,
+        gate: &G,
+        rings: u32,
+    ) -> Result<(), AskFault>
+        requires { seat < self.now.workers }
+        ensures { IfErr result (λ fault. fault_at fault ≡ None) }
+    {
+        for _ in rt.forever() {
+            let none_left = self.renew_some(rt, seat, gate)?;
+            if none_left || self.bell.was_rung(rings) {
+                return Ok(());
+            }
+        }
+        unreachable!()
+    }
+
+    /// One turn of each shard of the seat, in which it works out some of its groups. Whether none was left then in any.
+    fn renew_some<R: Wait, G: Gate>(&self, rt: &R, seat: usize, gate: &G) -> Result<bool, AskFault>
+        requires { seat < self.now.workers }
+        ensures { IfErr result (λ fault. fault_at fault ≡ None) }
+    {
+        let mut none_left = true;
+        for shard in seat..self.shards.len() {
+            if shard % self.workers == seat && !self.renew(rt, shard, gate)? {
+                none_left = false;
+            }
+        }
+        Ok(none_left)
     }
 
     /// A turn of the shard's lock, in which it works out some of its groups. Whether none was left then.
@@ -129,7 +207,11 @@ impl<J: Naming> Engine<J> {
         requires { shard < self.now.shards }
         ensures err { IfErr result (λ fault. fault_at fault ≡ None) }
     {
-        let mut turn = turn_of(rt, self.shards.as_slice(), shard);
+        let Some(turn) = self.shards[shard].turn_to_work() else {
+            yield_now();
+            return Ok(false);
+        };
+        let mut turn = turn;
         gate.enter(rt, shard);
         let none_left = turn.renew(GROUPS_A_TURN);
         MutexGuard::unlock(turn);

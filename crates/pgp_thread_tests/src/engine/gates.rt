@@ -9,8 +9,8 @@ use std::time::{Clock, Duration};
 /// How many turns a thread waits at most. A turn is one look and a short sleep.
 pub const TURNS: u32 = 100_000;
 
-// Waits until as many were counted.
-fn wait_for<R: Abort + Clock>(rt: &R, counted: &AtomicUsize, least: usize) {
+/// Waits until as many were counted.
+pub fn wait_for<R: Abort + Clock>(rt: &R, counted: &AtomicUsize, least: usize) {
     for _ in 0..TURNS {
         if counted.load(Ordering::SeqCst) >= least {
             return;

@@ -1,11 +1,11 @@
-//! That a worker works out all groups of its shards in a lull, before it sleeps, which a gate tells by counting its turns, and that
-//! it ends once all of them have read the Close, where one of them is ahead of the other.
+//! That a worker works out all groups of its shards in a lull, until it sleeps or something is submitted, which a gate tells by
+//! counting its turns, and that it ends once all of them have read the Close, where one of them is ahead of the other.
 ghost use Rattle.std.specs.Prelude.{◌<◌};
 ghost use Rattle.pgp_thread_tests.specs.declared.engine.opened.TheConstants.{SHARDS};
 
 use crate::count::is_count;
 use crate::engine::desk::Desk;
-use crate::engine::gates::TURNS;
+use crate::engine::gates::wait_for;
 use crate::engine::lines::{CLOSE, EMPTY_0, MAP};
 use crate::engine::opened::{Host, SHARDS, Trial, tried};
 use pgp_engine::{Gate, Naming, Open};
@@ -13,20 +13,22 @@ use pgp_fixtures::MANY_GROUPS;
 use std::process::Abort;
 use std::sync::Wait;
 use std::sync::atomic::{AtomicUsize, Ordering};
-use std::thread;
 use std::thread::join;
-use std::time::{Clock, Duration};
+use std::time::Clock;
 
 /// After how many rounds without an entry a lull begins.
 const QUIET: usize = 8;
 
 /// How many groups a turn works out.
-const A_TURN: usize = 16;
+const A_TURN: usize = 4;
 
-/// How many turns one worker takes with both shards until nothing is left to do, and it sleeps. In each round both of them read: the
-/// map in one round, nothing in the others. Each round of the lull has one turn more, which works out groups: one turn finds none in
-/// the first shard, and the second shard's groups take the others. Then no group of either is left, and there is one round more.
-const NEEDED: usize = (1 + QUIET) * SHARDS + (1 + GROUPS / A_TURN) * (SHARDS + 1) + SHARDS;
+/// How many turns one worker takes with both shards until nothing is left to do, and it sleeps. In each round each of them has one: it
+/// reads the map in one round and nothing in the others, of which the last begins the lull. Then the second shard works out its groups,
+/// and the first has none left.
+const NEEDED: usize = (2 + QUIET + GROUPS / A_TURN) * SHARDS;
+
+/// How many of these turns it has taken when each shard had one to work out groups.
+const BEGUN: usize = (3 + QUIET) * SHARDS;
 
 /// How many groups each shard has.
 const GROUPS: usize = 128;
@@ -34,54 +36,69 @@ const GROUPS: usize = 128;
 /// More entries than a worker's turn reads.
 const INFOS: usize = 100;
 
-/// Counts the turns that are over.
-#[derive(Drop)]
-struct CountingGate {
+/// Counts the turns that are over. After one of them it holds the worker until it is opened; after none if that is 0.
+struct CountingGate<R: Abort + Clock> {
+    rt: R,
     over: AtomicUsize,
+    held_after: usize,
+    opened: AtomicUsize,
 }
 
-impl Gate for CountingGate {
-    fn enter<R: Wait>(&self, _rt: &R, _shard: usize) {}
-
-    fn left<R: Wait>(&self, _rt: &R, _shard: usize) {
-        let _before = self.over.fetch_add(1, Ordering::SeqCst);
+// Written out, so that a function which lets one go has nothing to prove of what lies within.
+impl<R: Abort + Clock + Drop> Drop for CountingGate<R> {
+    fn drop(self) {
+        let CountingGate {
+            rt: _,
+            over: _,
+            held_after: _,
+            opened: _,
+        } = self;
     }
 }
 
-impl CountingGate {
-    /// Waits until as many turns are over as are needed.
-    fn wait<R: Abort + Clock>(&self, rt: &R) {
-        for _ in 0..TURNS {
-            if self.over.load(Ordering::SeqCst) >= NEEDED {
-                return;
-            }
-            thread::sleep(rt, Duration::from_micros(10));
+impl<R: Abort + Clock> Gate for CountingGate<R> {
+    fn enter<W: Wait>(&self, _rt: &W, _shard: usize) {}
+
+    fn left<W: Wait>(&self, _rt: &W, _shard: usize) {
+        let before = self.over.fetch_add(1, Ordering::SeqCst);
+        if before.saturating_add(1) == self.held_after {
+            wait_for(&self.rt, &self.opened, 1);
         }
-        panic!(rt; "a worker works out all groups before it sleeps")
     }
 }
 
-/// One worker serves both shards, of which the first has worked out all of its groups before. Once it has taken the turns that
-/// are needed, though nothing is submitted after the map, the log is closed. It has slept until then: no turn is left but those in
-/// which both read the Close.
-pub fn work_out<J: Naming + Send + Sync, R: Host>(rt: &R, desk: &Desk<J>) {
+/// One worker serves both shards, of which the first has worked out all of its groups before. Once it has taken so many turns,
+/// though nothing is submitted after the map, the log is closed, while the worker is held if that is asked for. No turn is left
+/// then but those in which both read the Close.
+pub fn work_out<J: Naming + Send + Sync, R: Host>(
+    rt: &R,
+    desk: &Desk<J>,
+    turns: usize,
+    is_held: bool,
+) {
     desk.put(rt, MANY_GROUPS);
     for _ in 0..2 {
         is_count(rt, desk.read_on(rt, 0, GROUPS), 1);
     }
     let gate = CountingGate {
+        rt: *rt,
         over: AtomicUsize::new(0),
+        held_after: if is_held { turns } else { 0 },
+        opened: AtomicUsize::new(0),
     };
     let (end, closed) = join(
         rt,
         || desk.work(rt, 0, &gate),
         || {
-            gate.wait(rt);
-            desk.put(rt, CLOSE)
+            wait_for(rt, &gate.over, turns);
+            let closed = desk.put(rt, CLOSE);
+            gate.opened.store(1, Ordering::SeqCst);
+            closed
         },
     );
     is_count(rt, end.expect(rt, "a shard"), closed);
-    is_count(rt, gate.over.load(Ordering::SeqCst), NEEDED + SHARDS);
+    let over = gate.over.load(Ordering::SeqCst);
+    is_count(rt, over, turns.saturating_add(SHARDS));
 }
 
 /// The log is closed, and one shard has read it. The worker of both ends once the other has read it too.
@@ -103,5 +120,22 @@ pub fn end_last<J: Naming>(rt: &impl Host, desk: &Desk<J>, ahead: usize)
 fn a_worker_works_out_all_groups_before_it_sleeps(rt: HostRuntime) {
     tried(&rt, &Trial::FirstAhead);
     tried(&rt, &Trial::SecondAhead);
-    tried(&rt, &Trial::WorksOut);
+    tried(
+        &rt,
+        &Trial::WorksOut {
+            turns: NEEDED,
+            is_held: false,
+        },
+    );
+}
+
+#[test]
+fn a_submit_ends_a_lull(rt: HostRuntime) {
+    tried(
+        &rt,
+        &Trial::WorksOut {
+            turns: BEGUN,
+            is_held: true,
+        },
+    );
 }

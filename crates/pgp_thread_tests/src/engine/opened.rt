@@ -35,7 +35,7 @@ pub enum Trial {
     ManySubmits,
     EachCallAgain,
     Works(Beside),
-    WorksOut,
+    WorksOut { turns: usize, is_held: bool },
     /// One of two shards of one worker has read all before the worker begins.
     FirstAhead,
     SecondAhead,
@@ -67,7 +67,7 @@ fn over<J: Naming + Send + Sync, R: Host>(
 {
     let workers = match trial {
         Trial::Works(Beside::FirstHeld) => SHARDS + 1,
-        Trial::WorksOut | Trial::FirstAhead | Trial::SecondAhead => 1,
+        Trial::WorksOut { .. } | Trial::FirstAhead | Trial::SecondAhead => 1,
         _ => SHARDS,
     };
     let (engine, clients) = Engine::<J>::make(rt, rt.alloc(), feed, taps, SHARDS, workers)?;
@@ -77,7 +77,7 @@ fn over<J: Naming + Send + Sync, R: Host>(
         Trial::ManySubmits => submit_many_times(rt, &desk),
         Trial::EachCallAgain => call_again(rt, &desk, clients),
         Trial::Works(beside) => work_beside(rt, beside, &desk, clients),
-        Trial::WorksOut => work_out(rt, &desk),
+        Trial::WorksOut { turns, is_held } => work_out(rt, &desk, *turns, *is_held),
         Trial::FirstAhead => end_last(rt, &desk, 0),
         Trial::SecondAhead => end_last(rt, &desk, 1),
         Trial::Outlived => {

@@ -1,0 +1,58 @@
+//! A shard under its lock.
+use crate::naming::Naming;
+use crate::shard::Shard;
+use std::sync::atomic::{AtomicU64, Ordering};
+use std::sync::{Mutex, MutexGuard, Wait};
+use std::thread::yield_now;
+
+/// How often whoever asks looks whether the lock is free, before it sleeps until then. A worker's turn is short, and a thread that
+/// sleeps wakes late.
+const LOOKS: u32 = 200;
+
+/// A shard under a lock, which workers leave to those who ask.
+#[derive(Drop)]
+pub(super) struct LockedShard<J: Naming> {
+    shard: Mutex<Shard<J>>,
+    /// How many wait for the lock to ask.
+    asking: AtomicU64,
+}
+
+impl<J: Naming> LockedShard<J> {
+    pub fn new(shard: Shard<J>) -> LockedShard<J> {
+        LockedShard {
+            shard: Mutex::new(shard),
+            asking: AtomicU64::new(0),
+        }
+    }
+
+    /// A turn of the lock, for somebody who asks.
+    pub fn turn_to_ask<R: Wait>(&self, rt: &R) -> MutexGuard<'_, Shard<J>> {
+        let _before = self.asking.fetch_add(1, Ordering::SeqCst);
+        let turn = match self.look() {
+            Some(turn) => turn,
+            None => self.shard.lock(rt),
+        };
+        let _before = self.asking.fetch_sub(1, Ordering::SeqCst);
+        turn
+    }
+
+    /// A turn of the lock, if it is free soon.
+    fn look(&self) -> Option<MutexGuard<'_, Shard<J>>> {
+        for _ in 0..LOOKS {
+            if let Some(turn) = self.shard.try_lock() {
+                return Some(turn);
+            }
+            yield_now();
+        }
+        None
+    }
+
+    /// A turn of the lock, for a worker, if nobody has it or waits to ask. Who asks has the shard read on anyhow.
+    pub fn turn_to_work(&self) -> Option<MutexGuard<'_, Shard<J>>> {
+        if self.asking.load(Ordering::SeqCst) == 0 {
+            self.shard.try_lock()
+        } else {
+            None
+        }
+    }
+}
