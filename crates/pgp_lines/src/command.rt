@@ -34,7 +34,7 @@ use pgp_ids::{Entry, EpochState, ObjectName, PgId, PoolId, PoolKind, Seq, TextFa
 use simdutf8::compat::from_utf8;
 use std::alloc::{AllocError, Global};
 pub use trace::MAX_EPOCHS;
-use trail::Trail;
+use trail::{Place, Trail};
 use value::{Tokens, Value, is_readable};
 
 /// What a line asks for.
@@ -125,39 +125,43 @@ impl LineReader {
     pub fn place_of_fault(&mut self, alloc: Global, line: &[u8]) -> Result<String, AllocError>
         ensures { self.new.format ≡ self.old.format }
     {
-        let trail = Trail::new();
-        let trailed = Some(&trail);
-        let read = read_within(
-            alloc,
-            &self.arena,
-            line,
-            self.format,
-            &mut self.room,
-            trailed,
-        );
+        let words = words_of_fault(alloc, &self.arena, line, self.format, &mut self.room);
         let _ = self.arena.reset();
-        match read {
-            Err(TextFault::Memory) => Err(AllocError),
-            _ => trail.words(alloc),
-        }
+        words
     }
 }
 
-/// Reads a line up to this version whose tokens lie in the arena. Each look into it is kept, where there is a trail for that.
+/// Reads a line up to this version, and says in words what it looked for last.
+fn words_of_fault<'a>(
+    alloc: Global,
+    arena: &'a Bump,
+    line: &'a [u8],
+    last: Format,
+    room: &'a mut Scratch,
+) -> Result<String, AllocError> {
+    let trail = Trail::new(arena);
+    let read = read_within(alloc, arena, line, last, room, trail.line());
+    match read {
+        Err(TextFault::Memory) => Err(AllocError),
+        _ => trail.words(alloc),
+    }
+}
+
+/// Reads a line up to this version whose tokens lie in the arena. Each look into it is kept, where the line has a place.
 fn read_within<'a>(
     alloc: Global,
     arena: &'a Bump,
     line: &'a [u8],
     last: Format,
     room: &'a mut Scratch,
-    trail: Option<&Trail>,
+    place: Option<&Place<'_>>,
 ) -> Result<Command, TextFault>
     ensures read { IsRead result (command_of last line.now) }
     ensures memory { result ≡ Err TextFault.Memory → is_utf8 line.now ≡ true }
     ensures in_range { IfOk result IsInRange }
 {
     let tokens = read_json(arena, line, room)?;
-    read_command(alloc, &Value::of(&tokens, trail), last)
+    read_command(alloc, &Value::of(&tokens, place), last)
 }
 
 /// The tokens of a JSON text (RFC 8259, nested at most 127 deep), or `NotJson`.

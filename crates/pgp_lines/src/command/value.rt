@@ -14,7 +14,7 @@ ghost use Rattle.pgp_lines.specs.Shapes.{items_in};
 ghost use Rattle.pgp_lines.specs.Value.{num_of, json_of, view, items_left, is_readable};
 
 use super::number::Number;
-use super::trail::{Mark, Step, Trail, Wanted};
+use super::trail::{Place, Wanted};
 use bumpalo::Bump;
 use json::{Element, Members, Node, Tape};
 use std::marker::Model;
@@ -29,7 +29,8 @@ pub(super) type Tokens<'a> = Tape<'a, &'a Bump>;
 #[derive(Drop)]
 pub(super) struct Value<'t, 'a> {
     element: Element<'t, 'a>,
-    mark: Mark<'t>,
+    /// If the line is read for the place of its fault.
+    place: Option<&'t Place<'t>>,
 }
 
 impl<'t, 'a> Model for Value<'t, 'a> {
@@ -49,37 +50,39 @@ impl<'t, 'a> Model for Value<'t, 'a> {
 }
 
 impl<'t, 'a> Value<'t, 'a> {
-    /// The value of a whole line. Each look into it is kept, where there is a trail for that.
-    pub(super) fn of(tokens: &'t Tokens<'a>, trail: Option<&'t Trail>) -> Value<'t, 'a>
+    /// The value of a whole line.
+    pub(super) fn of(tokens: &'t Tokens<'a>, place: Option<&'t Place<'t>>) -> Value<'t, 'a>
         ensures { result ≡ tokens.now }
     {
         Value {
             element: tokens.root(),
-            mark: Mark::line(trail),
+            place,
         }
     }
 
     /// Says what is looked for here.
     pub(super) fn look(&self, wanted: Wanted) {
-        self.mark.look(wanted);
+        if let Some(place) = self.place {
+            place.look(wanted);
+        }
     }
 
     /// Says what is looked for at a key.
     pub(super) fn look_at(&self, key: &'static str, wanted: Wanted) {
-        self.mark.look(wanted);
-        self.mark.within(Step::Key(key)).look(wanted);
+        if let Some(place) = self.place {
+            let _there = place.look_at(key, wanted);
+        }
     }
 
     /// The value at a key of an object; of one that stands there twice the last.
     pub(super) fn get(&self, key: &'static str) -> Option<Value<'t, 'a>>
         ensures { option_map view result ≡ get key.now (view self.now) }
     {
-        self.look_at(key, Wanted::Value);
+        let place = self
+            .place
+            .and_then(|place| place.look_at(key, Wanted::Value));
         let element = self.element.get(key)?;
-        Some(Value {
-            element,
-            mark: self.mark.within(Step::Key(key)),
-        })
+        Some(Value { element, place })
     }
 
     pub(super) fn as_str(&self) -> Option<&'a str>
@@ -97,7 +100,7 @@ impl<'t, 'a> Value<'t, 'a> {
         let items = self.element.items()?;
         Some(Items {
             items,
-            mark: self.mark,
+            place: self.place,
             taken: 0,
         })
     }
@@ -151,7 +154,7 @@ impl<'t, 'a> Value<'t, 'a> {
 pub(super) struct Items<'t, 'a> {
     items: json::Items<'t, 'a>,
     /// That of the array.
-    mark: Mark<'t>,
+    place: Option<&'t Place<'t>>,
     /// How many have come.
     taken: usize,
 }
@@ -172,17 +175,16 @@ impl<'t, 'a> Model for Items<'t, 'a> {
 }
 
 impl<'t, 'a> Items<'t, 'a> {
+    #[inline]
     pub(super) fn next(&mut self) -> Option<Value<'t, 'a>>
         ensures end { IfNone result (items_left self.old ≡ []) }
         ensures more { IfSome result (λ v. items_left self.old ≡ view v ∷ items_left self.new) }
         ensures shorter { OnSome result (length self.new < length self.old) }
     {
-        // Whether there is a next one is looked for in the array.
-        self.mark.look(Wanted::Words("a list of the right length"));
-        let mark = self.mark.within(Step::Item(self.taken));
+        let place = self.place.and_then(|place| place.look_for_item(self.taken));
         let element = self.items.next()?;
         self.taken = self.taken.saturating_add(1);
-        Some(Value { element, mark })
+        Some(Value { element, place })
     }
 }
 
