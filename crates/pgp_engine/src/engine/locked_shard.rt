@@ -1,7 +1,7 @@
 //! A shard under its lock.
 use crate::naming::Naming;
 use crate::shard::Shard;
-use std::sync::atomic::{AtomicU64, Ordering};
+use std::sync::atomic::{AtomicBool, AtomicU64, Ordering};
 use std::sync::{Mutex, MutexGuard, Wait};
 use std::thread::yield_now;
 
@@ -15,6 +15,8 @@ pub(super) struct LockedShard<J: Naming> {
     shard: Mutex<Shard<J>>,
     /// How many wait for the lock to ask.
     asking: AtomicU64,
+    /// A worker waits for the lock.
+    is_awaited: AtomicBool,
 }
 
 impl<J: Naming> LockedShard<J> {
@@ -22,6 +24,7 @@ impl<J: Naming> LockedShard<J> {
         LockedShard {
             shard: Mutex::new(shard),
             asking: AtomicU64::new(0),
+            is_awaited: AtomicBool::new(false),
         }
     }
 
@@ -36,11 +39,13 @@ impl<J: Naming> LockedShard<J> {
         turn
     }
 
-    /// A turn of the lock, if it is free soon.
+    /// A turn of the lock, if it is free soon and no worker waits for it.
     fn look(&self) -> Option<MutexGuard<'_, Shard<J>>> {
         for _ in 0..LOOKS {
-            if let Some(turn) = self.shard.try_lock() {
-                return Some(turn);
+            if !self.is_awaited.load(Ordering::SeqCst) {
+                if let Some(turn) = self.shard.try_lock() {
+                    return Some(turn);
+                }
             }
             yield_now();
         }
@@ -54,5 +59,13 @@ impl<J: Naming> LockedShard<J> {
         } else {
             None
         }
+    }
+
+    /// A turn of the lock, for a worker that waits until those who ask leave it one: meanwhile they look for the lock in vain.
+    pub fn await_turn_to_work<R: Wait>(&self, rt: &R) -> MutexGuard<'_, Shard<J>> {
+        self.is_awaited.store(true, Ordering::SeqCst);
+        let turn = self.shard.lock(rt);
+        self.is_awaited.store(false, Ordering::SeqCst);
+        turn
     }
 }

@@ -12,7 +12,6 @@ use crate::gate::Gate;
 use crate::naming::Naming;
 use pgp_feed::Receipt;
 use std::sync::{MutexGuard, Wait};
-use std::thread::yield_now;
 
 /// How many entries a shard reads at most in one turn of a worker. So whoever asks waits for no more of them than these. It bounds no
 /// time, since an incremental goes over all groups of the shard.
@@ -25,7 +24,11 @@ const GROUPS_A_TURN: usize = 4;
 /// After how many rounds without an entry a lull begins.
 const ROUNDS_TO_A_LULL: usize = 8;
 
-/// What a worker found in a turn of a shard, or in a round of turns.
+/// After how many rounds in a row that passed over a shard a worker waits for each. So it learns of the Close though threads ask a
+/// shard without a gap.
+const ROUNDS_TO_WAIT: usize = 1_000;
+
+/// What a worker that has shards read on found in a turn of one, or in a round of turns.
 #[derive(Drop)]
 pub(super) struct Round {
     /// How many entries were read, of the shard that read most.
@@ -65,6 +68,15 @@ impl Round {
     }
 }
 
+/// What a worker that has shards work out their groups found in a round of turns.
+#[derive(Drop)]
+struct Renewal {
+    /// No group was left, in none that was not passed over.
+    none_left: bool,
+    /// No shard was passed over.
+    is_whole: bool,
+}
+
 /// The receipt, if the front that it names was closed.
 fn end_in<J: Naming>(front: Receipt, closed: bool) -> Option<Receipt>
     requires feed { feed_of front ≡ J.feed }
@@ -80,10 +92,10 @@ impl<J: Naming> Engine<J> {
     /// `NoReader` end the work, and leave the shards as far as they have read.
     ///
     /// In each round every shard of the seat reads the next entries, as many as a turn may, in a turn of its own between the gate's
-    /// two calls. One that somebody has locked is passed over. Where there were fewer entries, the worker naps: so entries that come
-    /// one after the other are read many at a time. After a few rounds in a row without an entry it is a lull: until the next submit
-    /// the shards work out their groups, and once none is left, the worker sleeps. So while entries come, nobody works out a group
-    /// but who asks about it.
+    /// two calls. One that somebody has locked is passed over, until that was so in a thousand rounds in a row. Where there were
+    /// fewer entries, the worker naps: so entries that come one after the other are read many at a time. After a few rounds in a row
+    /// without an entry it is a lull: until the next submit the shards work out their groups, and once none is left, the worker
+    /// sleeps. So while entries come, nobody works out a group but who asks about it.
     pub fn work<R: Wait, G: Gate>(
         &self,
         rt: &R,
@@ -99,16 +111,22 @@ impl<J: Naming> Engine<J> {
             return Ok(None);
         }
         let mut quiet = 0;
+        let mut passing = 0;
         for _ in rt.forever() {
             let rings = self.bell.listen(quiet >= ROUNDS_TO_A_LULL);
             let Round {
                 came,
                 is_whole,
                 end,
-            } = self.read_on(rt, seat, gate)?;
+            } = self.read_on(rt, seat, gate, passing >= ROUNDS_TO_WAIT)?;
             if let Some(end) = end {
                 return Ok(Some(end));
             }
+            passing = if is_whole {
+                0
+            } else {
+                passing.saturating_add(1)
+            };
             quiet = if came == 0 {
                 quiet.saturating_add(1)
             } else {
@@ -116,8 +134,7 @@ impl<J: Naming> Engine<J> {
             };
             if quiet > ROUNDS_TO_A_LULL {
                 quiet = 0;
-                self.renew_all(rt, seat, gate, rings)?;
-                if is_whole {
+                if self.renew_all(rt, seat, gate, rings)? && is_whole {
                     self.bell.sleep(rt, rings);
                 }
             } else if came < ENTRIES_A_TURN {
@@ -128,29 +145,47 @@ impl<J: Naming> Engine<J> {
     }
 
     /// One turn of each shard of the seat, in which it reads on.
-    fn read_on<R: Wait, G: Gate>(&self, rt: &R, seat: usize, gate: &G) -> Result<Round, AskFault>
+    fn read_on<R: Wait, G: Gate>(
+        &self,
+        rt: &R,
+        seat: usize,
+        gate: &G,
+        waits: bool,
+    ) -> Result<Round, AskFault>
         requires workers { seat < self.now.workers }
         requires shards { seat < self.now.shards }
         ensures round { IfOk result (IsRound J.feed) }
         ensures err { IfErr result (λ fault. fault_at fault ≡ None) }
     {
         let shards = self.shards.len();
-        let mut round = self.read(rt, seat, gate)?;
+        let mut round = self.read(rt, seat, gate, waits)?;
         for shard in seat + 1..shards {
             if shard % self.workers == seat {
-                round = round.and(self.read(rt, shard, gate)?);
+                round = round.and(self.read(rt, shard, gate, waits)?);
             }
         }
         Ok(round)
     }
 
-    /// A turn of the shard's lock, in which it reads on.
-    fn read<R: Wait, G: Gate>(&self, rt: &R, shard: usize, gate: &G) -> Result<Round, AskFault>
+    /// A turn of the shard's lock, in which it reads on. Somebody who has it locked is waited for, if so asked.
+    fn read<R: Wait, G: Gate>(
+        &self,
+        rt: &R,
+        shard: usize,
+        gate: &G,
+        waits: bool,
+    ) -> Result<Round, AskFault>
         requires { shard < self.now.shards }
         ensures round { IfOk result (IsRound J.feed) }
         ensures err { IfErr result (λ fault. fault_at fault ≡ None) }
     {
-        let Some(turn) = self.shards[shard].turn_to_work() else {
+        let locked = &self.shards[shard];
+        let turn = if waits {
+            Some(locked.await_turn_to_work(rt))
+        } else {
+            locked.turn_to_work()
+        };
+        let Some(turn) = turn else {
             return Ok(Round::passed_over());
         };
         let mut turn = turn;
@@ -169,53 +204,73 @@ impl<J: Naming> Engine<J> {
     }
 
     /// Has the shards of the seat work out their groups, a few of each in turn, until none is left in any or the bell is rung.
+    /// Whether none was passed over in the last round.
     fn renew_all<R: Wait, G: Gate>(
         &self,
         rt: &R,
         seat: usize,
         gate: &G,
         rings: u32,
-    ) -> Result<(), AskFault>
+    ) -> Result<bool, AskFault>
         requires { seat < self.now.workers }
         ensures { IfErr result (λ fault. fault_at fault ≡ None) }
     {
         for _ in rt.forever() {
-            let none_left = self.renew_some(rt, seat, gate)?;
+            let Renewal {
+                none_left,
+                is_whole,
+            } = self.renew_some(rt, seat, gate)?;
             if none_left || self.bell.was_rung(rings) {
-                return Ok(());
+                return Ok(is_whole);
             }
         }
         unreachable!()
     }
 
-    /// One turn of each shard of the seat, in which it works out some of its groups. Whether none was left then in any.
-    fn renew_some<R: Wait, G: Gate>(&self, rt: &R, seat: usize, gate: &G) -> Result<bool, AskFault>
+    /// One turn of each shard of the seat, in which it works out some of its groups.
+    fn renew_some<R: Wait, G: Gate>(
+        &self,
+        rt: &R,
+        seat: usize,
+        gate: &G,
+    ) -> Result<Renewal, AskFault>
         requires { seat < self.now.workers }
         ensures { IfErr result (λ fault. fault_at fault ≡ None) }
     {
-        let mut none_left = true;
+        let mut all = Renewal {
+            none_left: true,
+            is_whole: true,
+        };
         for shard in seat..self.shards.len() {
-            if shard % self.workers == seat && !self.renew(rt, shard, gate)? {
-                none_left = false;
+            if shard % self.workers == seat {
+                match self.renew(rt, shard, gate)? {
+                    Some(none_left) => all.none_left = all.none_left && none_left,
+                    None => all.is_whole = false,
+                }
             }
         }
-        Ok(none_left)
+        Ok(all)
     }
 
-    /// A turn of the shard's lock, in which it works out some of its groups. Whether none was left then.
-    fn renew<R: Wait, G: Gate>(&self, rt: &R, shard: usize, gate: &G) -> Result<bool, AskFault>
+    /// A turn of the shard's lock, in which it works out some of its groups. Whether none was left then; `None` where the shard is
+    /// passed over.
+    fn renew<R: Wait, G: Gate>(
+        &self,
+        rt: &R,
+        shard: usize,
+        gate: &G,
+    ) -> Result<Option<bool>, AskFault>
         requires { shard < self.now.shards }
         ensures err { IfErr result (λ fault. fault_at fault ≡ None) }
     {
         let Some(turn) = self.shards[shard].turn_to_work() else {
-            yield_now();
-            return Ok(false);
+            return Ok(None);
         };
         let mut turn = turn;
         gate.enter(rt, shard);
         let none_left = turn.renew(GROUPS_A_TURN);
         MutexGuard::unlock(turn);
         gate.left(rt, shard);
-        none_left
+        Ok(Some(none_left?))
     }
 }

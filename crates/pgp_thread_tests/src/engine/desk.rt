@@ -5,8 +5,8 @@ ghost use Rattle.pgp_thread_tests.specs.declared.engine.opened.TheConstants.{SHA
 use crate::count::is_count;
 use crate::engine::lines::{given, group};
 use crate::engine::opened::{Host, SHARDS};
-use pgp_engine::{AskFault, Engine, Gate, Naming, SubmitFault};
-use std::sync::Wait;
+use pgp_engine::{AskFault, Engine, Gate, Naming, ReadFault, Shard, SubmitFault};
+use std::sync::{MutexGuard, Wait};
 
 /// An engine of two shards. Each call is made a second time where it is out of memory.
 pub struct Desk<J: Naming> {
@@ -43,6 +43,16 @@ impl<J: Naming> Desk<J> {
             answered => answered,
         };
         answer.ok().expect(rt, "an answer").at.len()
+    }
+
+    /// A turn of the group's shard, which has worked it out.
+    pub fn show(&self, rt: &impl Host) -> MutexGuard<'_, Shard<J>> {
+        let none = self.engine.told(rt).front(0);
+        let shown = match self.engine.show(rt, group(), &none) {
+            Err(ReadFault::Memory) => self.engine.show(rt, group(), &none),
+            shown => shown,
+        };
+        shown.ok().expect(rt, "a turn")
     }
 
     /// Lets one of the two shards read on, and says how many entries it has read.

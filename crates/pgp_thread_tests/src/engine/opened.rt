@@ -4,6 +4,7 @@ ghost use Rattle.pgp_feed.specs.Feeds.{told_of};
 ghost use Rattle.pgp_feed.specs.Receipts.{entries_of, feed_of};
 ghost use Rattle.pgp_feed.specs.Taps.{last_of};
 
+use crate::engine::asked::ask_beside;
 use crate::engine::clients::outlive;
 use crate::engine::desk::Desk;
 use crate::engine::growths::call_again;
@@ -39,6 +40,8 @@ pub enum Trial {
     /// One of two shards of one worker has read all before the worker begins.
     FirstAhead,
     SecondAhead,
+    /// One worker serves both shards, while two threads ask.
+    Asked,
     Outlived,
 }
 
@@ -67,7 +70,7 @@ fn over<J: Naming + Send + Sync, R: Host>(
 {
     let workers = match trial {
         Trial::Works(Beside::FirstHeld) => SHARDS + 1,
-        Trial::WorksOut { .. } | Trial::FirstAhead | Trial::SecondAhead => 1,
+        Trial::WorksOut { .. } | Trial::FirstAhead | Trial::SecondAhead | Trial::Asked => 1,
         _ => SHARDS,
     };
     let (engine, clients) = Engine::<J>::make(rt, rt.alloc(), feed, taps, SHARDS, workers)?;
@@ -80,6 +83,7 @@ fn over<J: Naming + Send + Sync, R: Host>(
         Trial::WorksOut { turns, is_held } => work_out(rt, &desk, *turns, *is_held),
         Trial::FirstAhead => end_last(rt, &desk, 0),
         Trial::SecondAhead => end_last(rt, &desk, 1),
+        Trial::Asked => ask_beside(rt, &desk),
         Trial::Outlived => {
             outlive(rt, desk, clients);
             return Ok(());
