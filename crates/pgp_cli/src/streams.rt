@@ -1,6 +1,7 @@
 //! Streams that note whether one of their calls failed, how far they were read, and whether what was written was passed on.
 ghost use Rattle.std.specs.Prelude.{◌≡◌, false};
 
+use memchr::memchr_iter;
 use pgp_core::{Bounds, Sink, Source};
 use std::io;
 use std::io::{Read, Write};
@@ -65,7 +66,7 @@ impl<R: Read + Drop> Counted for WatchedStream<R> {
 
 /// How many lines and bytes there are with these bytes.
 fn with_more(given: Bounds, bytes: &[u8]) -> Bounds {
-    let lines = bytes.iter().filter(|byte| **byte == b'\n').count();
+    let lines = memchr_iter(b'\n', bytes).count();
     Bounds {
         lines: given.lines.saturating_add(lines as u64),
         bytes: given.bytes.saturating_add(bytes.len() as u64),
