@@ -25,5 +25,5 @@ pub use raw_sets::RawSets;
 pub use report::{entries_fault, info_fault};
 pub use touch::{
     changes_no_pool, changes_nothing, changes_placement, changes_placements, changes_pool,
-    changes_temp, moves, moves_none,
+    changes_temp, moves, moves_all, moves_none,
 };

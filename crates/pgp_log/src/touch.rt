@@ -16,7 +16,7 @@ pub fn changes_placement(inc: &Incremental, pg: &PgId) -> bool
 }
 
 /// The incremental changes placements at large: it has weights or a tree.
-fn moves_all(inc: &Incremental) -> bool
+pub fn moves_all(inc: &Incremental) -> bool
     ensures { result ≡ moves_all inc.now }
 {
     !inc.weight.is_empty() || inc.crush.is_some()

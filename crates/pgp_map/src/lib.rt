@@ -27,4 +27,5 @@ mod weights;
 
 pub use fault::MapFault;
 pub use map::OsdMap;
+pub use number_set::NumberSet;
 pub use trees::copied_buckets;

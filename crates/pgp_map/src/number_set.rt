@@ -7,7 +7,7 @@ const WORDS: usize = 64;
 
 /// A set of numbers up to 4,095.
 #[derive(Drop)]
-pub(crate) struct NumberSet {
+pub struct NumberSet {
     /// Word `number / 64` has bit `number % 64` of each number.
     words: [u64; WORDS],
     ghost long: { length words ≡ 64 },

@@ -43,9 +43,10 @@ pub use Rattle.pgp_lists.proofs.Lists.{any-mapped, get-append, get-last, get-set
 pub use Rattle.pgp_lists.proofs.Options.{some-weaker, some_is}
 pub use Rattle.pgp_lists.specs.Repeats.{has_repeat}
 pub use Rattle.pgp_log.specs.Fits.{fits, is_close, is_closed}
+pub use Rattle.pgp_map.specs.NumberSet.{has}
 pub use Rattle.pgp_shard.specs.kept.Groups.{HasOneMore, AreAtPlaces, AreGroupsOf, AreOwnGroupsOf, CanAbsorb, FollowStill, HasOwn, HasStill, AreWorkedAt, IsKeptBeside, IsKeptIfOwn, IsOwnIfKept, IsStepping, KeepsAll, KeepsMarks, RenewsMarks, keeps, marks_of, owns, shard_with, worked_of}
 pub use Rattle.pgp_shard.specs.kept.KeptGroup.{AreAllMarked, AreKeptOf, IsKeptOf, IsStep, IsViewOf, IsViewSince, IsWorkedOut, ids_of, is_newer, lacks_view, marks_in, newer_in, worked_count, worked_in}
-pub use Rattle.pgp_shard.specs.kept.Rows.{AreRowsOf, IsChangesOf, IsRowOf, may_concern}
+pub use Rattle.pgp_shard.specs.kept.Rows.{AreRowsOf, IsChangesOf, IsRowOf, may_concern, may_place_group, temp_key}
 pub use Rattle.pgp_log.specs.Log.{HasInc, IsFrontOf, epoch_of, is_legal}
 pub use Rattle.pgp_log.specs.MapBefore.{IsMapBefore, makes_heavier, only_lightens}
 pub use Rattle.pgp_shard.specs.kept.OsdFilter.{Covers, CoversStill, have_a_bit, may_meet}

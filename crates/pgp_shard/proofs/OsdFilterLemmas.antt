@@ -35,22 +35,22 @@ still-added set osd other is =
       sum = kept-bit set.sum _ ((other % 64 + other / 64) % 64) is.sum;
     }
 
--- ---- the devices of a list, one after the other
+-- ---- what a list names, one element after the other
 
--- the set has the devices of the first elements, and takes those of the next one
-pub covers-more : {X : Type 0} (p : ℕ → X → Bool) (xs : List X) (i : ℕ) (x : X) (old new : OsdFilter) → i < length xs → CoversStill old new
-    → ((osd : ℕ) → p osd (get_or xs i x) ≡ true → Covers new osd) → ((osd : ℕ) → list_any (p osd) (take i xs) ≡ true → Covers old osd)
-    → (osd : ℕ) → list_any (p osd) (take (i + 1) xs) ≡ true → Covers new osd
-covers-more p xs i x old new within still here there osd is =
-    elim (or_cases _ _ (sym (list_any_more (p osd) xs i x within) ∙ is)) [
-      | inl before ↦ still osd (there osd before)
-      | inr next ↦ here osd next
+-- the set has what the first elements name, and takes what the next one names
+pub covers-more : {N X : Type 0} (p : N → X → Bool) (xs : List X) (i : ℕ) (x : X) (Old New : N → Type 0) → i < length xs → ((name : N) → Old name → New name)
+    → ((name : N) → p name (get_or xs i x) ≡ true → New name) → ((name : N) → list_any (p name) (take i xs) ≡ true → Old name)
+    → (name : N) → list_any (p name) (take (i + 1) xs) ≡ true → New name
+covers-more p xs i x Old New within still here there name is =
+    elim (or_cases _ _ (sym (list_any_more (p name) xs i x within) ∙ is)) [
+      | inl before ↦ still name (there name before)
+      | inr next ↦ here name next
     ]
 
--- the set has the devices of the whole list
-pub covers-all : {X : Type 0} (p : ℕ → X → Bool) (xs : List X) (i : ℕ) (set : OsdFilter) → length xs ≤ i
-    → ((osd : ℕ) → list_any (p osd) (take i xs) ≡ true → Covers set osd) → (osd : ℕ) → list_any (p osd) xs ≡ true → Covers set osd
-covers-all p xs i set whole there osd is = there osd (ap (list_any (p osd)) (take_all i xs whole) ∙ is)
+-- the set has what the whole list names
+pub covers-all : {N X : Type 0} (p : N → X → Bool) (xs : List X) (i : ℕ) (Has : N → Type 0) → length xs ≤ i
+    → ((name : N) → list_any (p name) (take i xs) ≡ true → Has name) → (name : N) → list_any (p name) xs ≡ true → Has name
+covers-all p xs i Has whole there name is = there name (ap (list_any (p name)) (take_all i xs whole) ∙ is)
 
 -- ---- two sets
 

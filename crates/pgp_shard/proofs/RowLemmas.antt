@@ -1,5 +1,5 @@
 -- Rows of groups, and the incrementals by which they are passed by.
-use Rattle.pgp_shard.proofs.Common.{may_concern, may_meet, changes_placement, ◌≡◌, ℕ, ◌+◌, ◌<◌, List, [], ◌∷◌, ◌++◌, Bool, true, false, ◌&&◌, not, ◌||◌, Option, Some, length, map, set, nat_eq, refl, sym, ap, ◌∙◌, subst, inl, inr, ◌⊎◌, is_some, arith, eq-eqb, length-append, list_any, option_map, option_map_or, slice_get, or-true, cases_Bool, cases_eq, cases_lt, true≢false, not-false, not-true, length-set, same_Some, slice_get_within, and3_parts, or3_parts, PoolSizes, any-mapped, get-append, get-last, get-set_other, get-set_same, Entry, DeviceWeight, Incremental, PgId, pool, temp, OsdMap, then_with, may_place_elsewhere, raw_places, raw_set, switches_any, weighed, lighter-elsewhere, or3_false, unplaced, incs_of, group_in, changed_devices, changes_pool, changes_temp, has_osd, has_to_do_with, may_lie_on, moves_all, names, turned_devices, MapBefore, AreRowsOf, IsChangesOf, IsKeptOf, IsRowOf, IsStep, lacks_view, Covers, CoversStill, makes_heavier, only_lightens, changes_no_pool, changes_placements, KeptGroup, OsdFilter, Row, may_move, is_touched}
+use Rattle.pgp_shard.proofs.Common.{and-false, has, may_concern, may_place_group, temp_key, may_meet, changes_placement, ◌≡◌, ℕ, ◌+◌, ◌<◌, List, [], ◌∷◌, ◌++◌, Bool, true, false, ◌&&◌, not, ◌||◌, Option, Some, length, map, set, nat_eq, refl, sym, ap, ◌∙◌, subst, inl, inr, ◌⊎◌, is_some, arith, eq-eqb, length-append, list_any, option_map, option_map_or, slice_get, or-true, cases_Bool, cases_eq, cases_lt, true≢false, not-false, not-true, length-set, same_Some, slice_get_within, and3_parts, or3_parts, PoolSizes, any-mapped, get-append, get-last, get-set_other, get-set_same, Entry, DeviceWeight, Incremental, PgId, pool, temp, OsdMap, then_with, may_place_elsewhere, raw_places, raw_set, switches_any, weighed, lighter-elsewhere, or3_false, unplaced, incs_of, group_in, changed_devices, changes_pool, changes_temp, has_osd, has_to_do_with, may_lie_on, moves_all, names, turned_devices, MapBefore, AreRowsOf, IsChangesOf, IsKeptOf, IsRowOf, IsStep, lacks_view, Covers, CoversStill, makes_heavier, only_lightens, changes_no_pool, changes_placements, KeptGroup, OsdFilter, Row, may_move, is_touched}
 use Rattle.std.proofs.lemmas.Option.{slice_get_cases}
 use Rattle.pgp_ids.specs.declared.entry.Entry.TheVariants as entry
 use Rattle.pgp_shard.specs.declared.row.Changes.{Changes}
@@ -148,6 +148,11 @@ either : (placed light : Bool) → (placed && not light) ≡ false → (placed �
 either true light none = inr (not-false light none)
 either false light none = inl refl
 
+-- where its key is among those of the lists if it has one there, whether the key is looked for first makes no difference
+by-key : (all pool key temp : Bool) → (temp ≡ true → key ≡ true) → (all || pool || (key && temp)) ≡ (all || pool || temp)
+by-key all pool key true there = rw (there refl) refl
+by-key all pool key false there = rw (and-false key) refl
+
 concern-parts : (a b c : Bool) → (a && b || c) ≡ false → ((a ≡ false) ⊎ (b ≡ false)) × (c ≡ false)
 concern-parts true true c none = absurd (true≢false none)
 concern-parts true false c none = (inr refl, none)
@@ -156,10 +161,13 @@ concern-parts false b c none = (inl refl, none)
 -- the incremental of these changes comes next, and doesn't concern the group by its row
 module _ (log : List Entry) (inc : Incremental) (before : MapBefore) (after : OsdMap) (changes : Changes) (row : Row) (kept : KeptGroup) (says : IsChangesOf inc before after changes) (is : IsRowOf row kept)
     (holds : IsKeptOf log kept) (step : IsStep log inc before after) where
+  placed_group : may_place_group changes inc row.pg ≡ changes_placement inc row.pg
+  placed_group = by-key (moves_all inc) (changes_pool inc row.pg.pool) (has changes.temps (temp_key row.pg)) (changes_temp inc row.pg) (says.temps row.pg)
+
   -- where the group is marked, it isn't moved
-  unmoved : (changes.moves && changes_placement inc row.pg || may_meet row.devices changes.movers) ≡ false → may_move (incs_of log) inc kept.pg ≡ false
+  unmoved : (changes.moves && may_place_group changes inc row.pg || may_meet row.devices changes.movers) ≡ false → may_move (incs_of log) inc kept.pg ≡ false
   unmoved none =
-      let parts = concern-parts changes.moves (changes_placement inc row.pg) (may_meet row.devices changes.movers) none in
+      let parts = concern-parts changes.moves (may_place_group changes inc row.pg) (may_meet row.devices changes.movers) none in
       let turned : list_any (may_lie_on (incs_of log) kept.pg) (turned_devices inc) ≡ false =
       none-passes (may_lie_on (incs_of log) kept.pg) (turned_devices inc)
       (λ osd lies there. apart row.devices changes.movers parts.1 osd (is.lies_on log holds osd lies) (says.turned osd there)) in
@@ -171,16 +179,16 @@ module _ (log : List Entry) (inc : Incremental) (before : MapBefore) (after : Os
               let own : changes_pool inc kept.pg.pool ≡ false = rw (pools.0, pools.1) refl in
               rw (lightened log inc before after changes row kept says light is holds (apart row.devices changes.movers parts.1), own, pools.2) turned
         ]
-        | inr own ↦ lies-still (incs_of log) inc kept.pg (subst (λ (pg : PgId). changes_placement inc pg ≡ false) is.pg own) turned
+        | inr own ↦ lies-still (incs_of log) inc kept.pg (subst (λ (pg : PgId). changes_placement inc pg ≡ false) is.pg (sym placed_group ∙ own)) turned
       ]
 
   -- where it isn't marked, it isn't touched
-  untouched : lacks_view kept ≡ false → (changes.places && changes_placement inc row.pg || may_meet row.devices changes.devices) ≡ false → is_touched log (entry.Inc inc) kept.pg ≡ false
+  untouched : lacks_view kept ≡ false → (changes.places && may_place_group changes inc row.pg || may_meet row.devices changes.devices) ≡ false → is_touched log (entry.Inc inc) kept.pg ≡ false
   untouched worked_out none =
-      let parts = concern-parts changes.places (changes_placement inc row.pg) (may_meet row.devices changes.devices) none in
+      let parts = concern-parts changes.places (may_place_group changes inc row.pg) (may_meet row.devices changes.devices) none in
       let placed : changes_placement inc kept.pg ≡ false = elim parts.0 [
         | inl nothing ↦ nothing-placed inc kept.pg (sym says.places ∙ nothing)
-        | inr own ↦ subst (λ (pg : PgId). changes_placement inc pg ≡ false) is.pg own
+        | inr own ↦ subst (λ (pg : PgId). changes_placement inc pg ≡ false) is.pg (sym placed_group ∙ own)
       ] in
       ap (λ b. b || list_any (has_to_do_with log kept.pg) (changed_devices inc)) placed
       ∙ none-passes (has_to_do_with log kept.pg) (changed_devices inc)

@@ -1,16 +1,22 @@
 //! What a shard reads first of each of its groups where an incremental comes.
 
-ghost use Rattle.std.specs.Prelude.{◌≡◌, List, not};
+ghost use Rattle.std.specs.List.{list_any};
+ghost use Rattle.std.specs.Prelude.{◌≡◌, List, not, true};
 ghost use Rattle.pgp_ids.specs.declared.incremental.Incremental.{Incremental as AnyIncremental};
+ghost use Rattle.pgp_ids.specs.declared.pg_id.PgId.{PgId as Id};
 ghost use Rattle.pgp_map.specs.MapFault.{then_with};
 ghost use Rattle.pgp_map.specs.MapOf.{IsMapOf};
+ghost use Rattle.pgp_map.specs.NumberSet.{has};
+ghost use Rattle.pgp_map.specs.Pools.{is_same_group};
 ghost use Rattle.pgp_log.specs.MapBefore.{IsMapBefore, moves_some};
-ghost use Rattle.pgp_shard.specs.kept.Rows.{IsChangesOf, devices_for, may_concern, may_place};
+ghost use Rattle.pgp_shard.specs.kept.Rows.{IsChangesOf, devices_for, may_concern, may_place, may_place_group, temp_key};
 
 use super::osd_filter::OsdFilter;
-use pgp_ids::{Incremental, PgId};
-use pgp_log::{MapBefore, changes_no_pool, changes_placement, changes_placements};
-use pgp_map::OsdMap;
+use pgp_ids::{Incremental, PgId, TempList};
+use pgp_log::{
+    MapBefore, changes_no_pool, changes_placements, changes_pool, changes_temp, moves_all,
+};
+use pgp_map::{NumberSet, OsdMap};
 
 /// What of a group an incremental is compared with first. Rows lie side by side in memory, so that a shard passes by the groups
 /// that an incremental doesn't touch without a look at what it keeps of them.
@@ -28,7 +34,7 @@ impl Row {
     pub(crate) fn is_passed_by(&self, changes: &Changes, inc: &Incremental) -> bool
         ensures { result ≡ not (may_concern changes.now inc.now self.now) }
     {
-        let placed = changes.may_place(self.marked) && changes_placement(inc, &self.pg);
+        let placed = changes.may_place(self.marked) && changes.may_place_group(inc, &self.pg);
         !placed && !self.devices.shares(changes.devices_for(self.marked))
     }
 }
@@ -41,6 +47,8 @@ pub(crate) struct Changes {
     /// It may, otherwise than by weights by which no device gets heavier: these move a group only if it lies on a device that is
     /// weighed.
     moves: bool,
+    /// The keys of the groups that it gives pg_temp lists, or takes them from.
+    temps: NumberSet,
     /// The devices that it boots, takes down, destroys or weighs.
     movers: OsdFilter,
     /// Those, and the devices of which it tells.
@@ -63,6 +71,7 @@ impl Changes {
         Changes {
             places: changes_placements(inc),
             moves: moves_some(before, after, inc),
+            temps: keys_of(inc.temp.as_slice()),
             movers,
             devices,
         }
@@ -73,6 +82,16 @@ impl Changes {
         ensures { result ≡ may_place marked self.now }
     {
         if marked { self.moves } else { self.places }
+    }
+
+    /// The incremental, of which these are the changes, may change where the group lies, whatever becomes of devices. Its pg_temp
+    /// lists are looked through for few groups that have none there.
+    fn may_place_group(&self, inc: &Incremental, pg: &PgId) -> bool
+        ensures { result ≡ may_place_group self.now inc.now pg.now }
+    {
+        moves_all(inc)
+            || changes_pool(inc, pg.pool)
+            || self.temps.contains(temp_key(*pg)) && changes_temp(inc, pg)
     }
 
     /// The devices that concern a group, by whether it is marked.
@@ -92,4 +111,22 @@ fn moves_some(before: &MapBefore, after: &OsdMap, inc: &Incremental) -> bool
     // Weights by which no device gets heavier can only take devices out.
     let only_lightens = inc.crush.is_none() && changes_no_pool(inc) && !before.makes_heavier(after);
     changes_placements(inc) && !only_lightens
+}
+
+/// The keys of the groups of which these are the pg_temp lists.
+fn keys_of(temps: &[TempList]) -> NumberSet
+    ensures { (pg : Id) → list_any (λ given. is_same_group given.pg pg) temps.now ≡ true → has result (temp_key pg) ≡ true }
+{
+    let mut keys = NumberSet::empty();
+    for given in temps {
+        keys.insert(temp_key(given.pg));
+    }
+    keys
+}
+
+/// By which number a group is looked for among those of pg_temp lists. Few groups of a map have the same one.
+fn temp_key(pg: PgId) -> u16
+    ensures { result ≡ temp_key pg }
+{
+    ((u32::from(pg.pool.number()) * 257 + u32::from(pg.pg)) % 4096) as u16
 }

@@ -71,7 +71,7 @@ impl Round {
 /// What a worker that has shards work out their groups found in a round of turns.
 #[derive(Drop)]
 struct Renewal {
-    /// No group was left, in none that was not passed over.
+    /// No group was left in any shard that had a turn.
     none_left: bool,
     /// No shard was passed over.
     is_whole: bool,

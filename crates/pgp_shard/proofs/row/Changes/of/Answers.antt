@@ -13,6 +13,7 @@ returns c =
     record {
       places = c.changes_placements.ensures;
       moves = c.moves_some.ensures;
+      temps = rw c.as_slice-7.ensures at c.keys_of.ensures;
       turned = λ osd there. c.add_weighed.ensures.still osd (turned osd (turned-parts (nat_eq osd) inc ∙ there));
       weighed = rw c.as_slice-4.ensures at c.add_weighed.ensures.there;
       devices = λ osd there.
