@@ -1,5 +1,6 @@
 //! That a worker works out all groups of its shards in a lull, until it sleeps or something is submitted, which a gate tells by
-//! counting its turns, and that it ends once all of them have read the Close, where one of them is ahead of the other.
+//! counting its turns, those of a shard that it passed over among them; and that it ends once all shards have read the Close, where
+//! one of them is ahead of the other.
 ghost use Rattle.std.specs.Prelude.{◌<◌};
 ghost use Rattle.pgp_thread_tests.specs.declared.engine.opened.TheConstants.{SHARDS};
 
@@ -11,8 +12,8 @@ use crate::engine::opened::{Host, SHARDS, Trial, tried};
 use pgp_engine::{Gate, Naming, Open};
 use pgp_fixtures::MANY_GROUPS;
 use std::process::Abort;
-use std::sync::Wait;
 use std::sync::atomic::{AtomicUsize, Ordering};
+use std::sync::{MutexGuard, Wait};
 use std::thread::join;
 use std::time::Clock;
 
@@ -25,10 +26,20 @@ const A_TURN: usize = 4;
 /// How many turns one worker takes with both shards until nothing is left to do, and it sleeps. In each round each of them has one: it
 /// reads the map in one round and nothing in the others, of which the last begins the lull. Then the second shard works out its groups,
 /// and the first has none left.
-const NEEDED: usize = (2 + QUIET + GROUPS / A_TURN) * SHARDS;
+const NEEDED: usize = READ + ALL * SHARDS;
+
+/// How many of these turns are over when the lull begins.
+const READ: usize = (2 + QUIET) * SHARDS;
+
+/// In how many turns a shard works out its groups.
+const ALL: usize = GROUPS / A_TURN;
 
 /// How many of these turns it has taken when each shard had one to work out groups.
-const BEGUN: usize = (3 + QUIET) * SHARDS;
+const BEGUN: usize = READ + SHARDS;
+
+/// How many are over at least when one shard has worked out its groups while the other was locked, and then that one. Meanwhile the
+/// first has a turn in each round, but perhaps none in the round in which the lock was let go.
+const BACK: usize = READ + ALL + ALL * SHARDS - 1;
 
 /// How many groups each shard has.
 const GROUPS: usize = 128;
@@ -56,6 +67,17 @@ impl<R: Abort + Clock + Drop> Drop for CountingGate<R> {
     }
 }
 
+impl<R: Abort + Clock> CountingGate<R> {
+    fn new(rt: R, held_after: usize) -> Self {
+        CountingGate {
+            rt,
+            over: AtomicUsize::new(0),
+            held_after,
+            opened: AtomicUsize::new(0),
+        }
+    }
+}
+
 impl<R: Abort + Clock> Gate for CountingGate<R> {
     fn enter<W: Wait>(&self, _rt: &W, _shard: usize) {}
 
@@ -80,12 +102,7 @@ pub fn work_out<J: Naming + Send + Sync, R: Host>(
     for _ in 0..2 {
         is_count(rt, desk.read_on(rt, 0, GROUPS), 1);
     }
-    let gate = CountingGate {
-        rt: *rt,
-        over: AtomicUsize::new(0),
-        held_after: if is_held { turns } else { 0 },
-        opened: AtomicUsize::new(0),
-    };
+    let gate = CountingGate::new(*rt, if is_held { turns } else { 0 });
     let (end, closed) = join(
         rt,
         || desk.work(rt, 0, &gate),
@@ -99,6 +116,27 @@ pub fn work_out<J: Naming + Send + Sync, R: Host>(
     is_count(rt, end.expect(rt, "a shard"), closed);
     let over = gate.over.load(Ordering::SeqCst);
     is_count(rt, over, turns.saturating_add(SHARDS));
+}
+
+/// One worker serves both shards. As a lull begins, somebody locks one of them until the worker has worked out all groups of the other.
+/// It doesn't sleep then, but works out those that it passed over too, though nothing is submitted after the map.
+pub fn come_back<J: Naming + Send + Sync, R: Host>(rt: &R, desk: &Desk<J>) {
+    desk.put(rt, MANY_GROUPS);
+    let gate = CountingGate::new(*rt, READ);
+    let (end, closed) = join(
+        rt,
+        || desk.work(rt, 0, &gate),
+        || {
+            wait_for(rt, &gate.over, READ);
+            let turn = desk.show(rt);
+            gate.opened.store(1, Ordering::SeqCst);
+            wait_for(rt, &gate.over, READ + ALL);
+            MutexGuard::unlock(turn);
+            wait_for(rt, &gate.over, BACK);
+            desk.put(rt, CLOSE)
+        },
+    );
+    is_count(rt, end.expect(rt, "a shard"), closed);
 }
 
 /// The log is closed, and one shard has read it. The worker of both ends once the other has read it too.
@@ -138,4 +176,9 @@ fn a_submit_ends_a_lull(rt: HostRuntime) {
             is_held: true,
         },
     );
+}
+
+#[test]
+fn a_worker_comes_back_to_a_shard_that_was_locked(rt: HostRuntime) {
+    tried(&rt, &Trial::ComesBack);
 }
