@@ -96,7 +96,7 @@ fn run_over<J: Naming + Send + Sync, R: Source, W: Sink, T: Threads + Wait + Syn
     let (_, _, outcome) = run_among_workers(
         rt, alloc, format, &engine, client, reader, writer, workers,
     );
-    engine.give_up(rt);
+    engine.give_up_at_exit(rt);
     outcome
 }
 

@@ -17,6 +17,7 @@ use crate::shard::Shard;
 use crate::submit_answer::SubmitAnswer;
 use pgp_feed::{ReadFault, Receipt};
 use pgp_ids::{Entry, PgId};
+use std::mem::forget;
 use std::sync::{MutexGuard, Wait};
 
 // The entry closes the log.
@@ -124,6 +125,18 @@ impl<J: Naming> Engine<J> {
             shards: _,
             workers: _,
         } = self;
+        intake.into_inner().give_up(rt);
+    }
+
+    /// The same as the process ends: what the shards keep goes with the process, and not entry by entry.
+    pub fn give_up_at_exit(self, rt: &impl Wait) {
+        let Engine {
+            intake,
+            bell: _,
+            shards,
+            workers: _,
+        } = self;
+        forget(shards);
         intake.into_inner().give_up(rt);
     }
 }

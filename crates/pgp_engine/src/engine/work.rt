@@ -227,7 +227,8 @@ impl<J: Naming> Engine<J> {
         unreachable!()
     }
 
-    /// One turn of each shard of the seat, in which it works out some of its groups.
+    /// One turn of each shard of the seat, in which it works out some of its groups. It goes from the last shard to the first: whoever
+    /// asks about all groups in their order goes the other way, and so mostly asks another shard.
     fn renew_some<R: Wait, G: Gate>(
         &self,
         rt: &R,
@@ -241,7 +242,7 @@ impl<J: Naming> Engine<J> {
             none_left: true,
             is_whole: true,
         };
-        for shard in seat..self.shards.len() {
+        for shard in (seat..self.shards.len()).rev() {
             if shard % self.workers == seat {
                 match self.renew(rt, shard, gate)? {
                     Some(none_left) => all.none_left = all.none_left && none_left,
