@@ -39,10 +39,11 @@ impl Bell {
         self.rings.park(rt, rings);
     }
 
-    /// Rests for a millisecond, or until it is rung. Who naps doesn't listen.
-    pub fn nap<R: Wait>(&self, rt: &R) {
+    /// Rests for so many microseconds, or until it is rung. Who naps doesn't listen.
+    pub fn nap<R: Wait>(&self, rt: &R, micros: u64) {
         let rings = low_half(self.rings.load(Ordering::SeqCst));
-        self.rings.park_timeout(rt, rings, Duration::from_millis(1));
+        self.rings
+            .park_timeout(rt, rings, Duration::from_micros(micros));
     }
 
     /// Wakes those who sleep, once for all that is rung until one of them listens again.

@@ -24,6 +24,12 @@ const GROUPS_A_TURN: usize = 4;
 /// After how many rounds without an entry a lull begins.
 const ROUNDS_TO_A_LULL: usize = 8;
 
+/// How many microseconds a worker naps after a round that read entries, if fewer than it might.
+const NAP: u64 = 1_000;
+
+/// How many it naps after a round without an entry, before a lull.
+const SHORT_NAP: u64 = 100;
+
 /// After how many rounds in a row that passed over a shard a worker waits for each. So it learns of the Close though threads ask a
 /// shard without a gap.
 const ROUNDS_TO_WAIT: usize = 1_000;
@@ -138,7 +144,7 @@ impl<J: Naming> Engine<J> {
                     self.bell.sleep(rt, rings);
                 }
             } else if came < ENTRIES_A_TURN {
-                self.bell.nap(rt);
+                self.bell.nap(rt, if came == 0 { SHORT_NAP } else { NAP });
             }
         }
         unreachable!()
