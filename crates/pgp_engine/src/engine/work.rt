@@ -10,6 +10,7 @@ use super::Engine;
 use crate::fault::AskFault;
 use crate::gate::Gate;
 use crate::naming::Naming;
+use crate::shard::Shard;
 use pgp_feed::Receipt;
 use std::sync::{MutexGuard, Wait};
 
@@ -90,6 +91,17 @@ fn end_in<J: Naming>(front: Receipt, closed: bool) -> Option<Receipt>
     ensures { IfSome result (IsEnd J.feed) }
 {
     if closed { Some(front) } else { None }
+}
+
+/// Has a shard that has read something work out some of its groups. Whether none is left then. A shard that has read nothing makes
+/// none, so that it needn't keep groups while it reads its first entries.
+fn renew_read<J: Naming>(shard: &mut Shard<J>) -> Result<bool, AskFault>
+    ensures { IfErr result (λ fault. fault_at fault ≡ None) }
+{
+    if shard.receipt().len() == 0 {
+        return Ok(true);
+    }
+    shard.renew(GROUPS_A_TURN)
 }
 
 impl<J: Naming> Engine<J> {
@@ -275,7 +287,7 @@ impl<J: Naming> Engine<J> {
         };
         let mut turn = turn;
         gate.enter(rt, shard);
-        let none_left = turn.renew(GROUPS_A_TURN);
+        let none_left = renew_read(&mut *turn);
         MutexGuard::unlock(turn);
         gate.left(rt, shard);
         Ok(Some(none_left?))
