@@ -18,7 +18,7 @@ import subprocess
 
 from measure import alternate, command_line_of_scripts, line_count, ratio, scripts, seconds, table
 
-NAMES = ("down_asked", "map_asked", "locate", "peering_wide", "churn_wide", "ask_heavy", "submit_heavy")
+NAMES = ("down_asked", "map_asked", "locate", "peering_wide", "churn_wide", "ask_heavy", "submit_heavy", "full_infos", "steps")
 
 
 def command(program, shards, workers):
