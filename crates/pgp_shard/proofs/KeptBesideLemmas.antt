@@ -1,6 +1,7 @@
 -- What a shard keeps beside the entries that it has read, or that it keeps nothing, and the marks.
 use Rattle.pgp_shard.proofs.Common.{◌≡◌, List, [], ◌∷◌, ◌++◌, Option, Some, None, IfSome, true, false, ◌&&◌, map, refl, and_from, and_parts, sym, ap, ◌∙◌, subst, map-append, Entry, PgId, Incremental, has_group, incs_of, is_touched, fits, AreOwnGroupsOf, IsKeptBeside, marks_of, owns, shard_with, AreAllMarked, AreMarked, MarksOnlyTouched, is_among, Groups, Owner}
 use Rattle.pgp_ids.specs.declared.entry.Entry.TheVariants as entry
+use Rattle.pgp_shard.specs.kept.Groups.{AreMadeBeside}
 use Rattle.pgp_log.proofs.ComingLemmas.{has_group-same}
 use Rattle.pgp_shard.proofs.MarksLemmas.{all-marks, marks-once, pool-left}
 use Rattle.pgp_shard.proofs.KeptLemmas.{grown, still-there}
@@ -9,6 +10,12 @@ use Rattle.pgp_log.proofs.TakeLemmas.{faultless-inc, fits-faultless, incs-inc, i
 -- what is there follows from the log
 pub groups-there : (owner : Owner) (log : List Entry) (found : Option Groups) (groups : Groups) → IsKeptBeside owner log found → found ≡ Some groups → AreOwnGroupsOf owner log groups
 groups-there owner log found groups is there = subst (λ (o : Option Groups). IfSome o (AreOwnGroupsOf owner log)) there is.groups_are
+
+-- what was made, by the entries that are the log
+pub made-there : (owner : Owner) (entries log : List Entry) (before after : Option Groups) (groups : Groups) → entries ≡ log → after ≡ Some groups → IfSome after (AreMadeBeside owner entries before)
+    → AreMadeBeside owner log before groups
+made-there owner entries log before after groups same there made =
+    subst (λ (l : List Entry). AreMadeBeside owner l before groups) same (subst (λ (o : Option Groups). IfSome o (AreMadeBeside owner entries before)) there made)
 
 -- ---- an entry comes
 

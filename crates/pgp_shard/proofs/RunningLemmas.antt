@@ -1,5 +1,5 @@
 -- What the code of a world keeps of it.
-use Rattle.pgp_shard.proofs.Common.{◌≡◌, ℕ, zero, suc, ◌+◌, ◌<◌, ◌≤◌, List, [], ◌∷◌, ◌++◌, inl, inr, Result, Ok, Err, OnOk, OnErr, IfOk, Some, None, true, false, length, map, min, take, drop, get_or, set, replicate, refl, ap, sym, ◌∙◌, subst, append_assoc, add-one, zero-add, arith, eq-eqb, length-append, range_with_len, drop-append_seam, map-set_same, take-append-add, cases_eq, drop-map, get_or-map, get_or_default, get_or-set_other, get_or-set_same, length-map, length-set, length-take, map-append, map-set, take-append-drop, take-map, take-take, take-front, Entry, PgId, View, has_group, incs_of, scratch, HasInc, IsFrontOf, is_legal, Shard, HasReadSame, HasReadFewer, HasReadSome, having_read_all, having_read_front, is_own, opening_shard, shard_of, World, front_of, view_reply, Absorb, Ask, Absorbed, Asked, MayReply}
+use Rattle.pgp_shard.proofs.Common.{◌≡◌, ℕ, zero, suc, ◌+◌, ◌<◌, ◌≤◌, List, [], ◌∷◌, ◌++◌, inl, inr, Result, Ok, Err, OnOk, OnErr, IfOk, Some, None, true, false, length, map, min, take, drop, get_or, set, replicate, refl, ap, sym, ◌∙◌, subst, add-one, zero-add, arith, eq-eqb, length-append, range_with_len, drop-append_seam, map-set_same, take-append-add, cases_eq, drop-map, get_or-map, get_or_default, get_or-set_other, get_or-set_same, length-map, length-set, length-take, map-append, map-set, take-append-drop, take-map, take-take, take-front, Entry, PgId, View, has_group, incs_of, scratch, HasInc, IsFrontOf, is_legal, Shard, HasReadSame, HasReadFewer, HasReadSome, having_read_all, having_read_front, is_own, opening_shard, shard_of, World, front_of, view_reply, Absorb, Ask, Absorbed, Asked, MayReply}
 use Rattle.std.specs.declared.alloc.AllocError.{AllocError}
 use Rattle.std.proofs.lemmas.List.FromFn.{get_or-map-range_with_len}
 use Rattle.pgp_lists.proofs.Ranges.{range_with_len-suc}
@@ -43,23 +43,6 @@ pub openings-running : (log : List Entry) (k : ℕ) (all : List Shard) → all �
 openings-running log k all are some =
     let each = openings-each log k all are in
     record { some = omega (arith, some, each.0); each = each.1 }
-
--- ---- the log takes an entry
-
-pub longer-running : (log : List Entry) (shards : List Shard) (entry : Entry) → IsRunning log shards → IsRunning (log ++ entry ∷ []) shards
-longer-running log shards entry is = record {
-  some = is.some;
-  each = λ n below.
-      let reads = is.each n below in
-      let front = reads.front_is in record {
-        front_is = record {
-          rest = front.rest ++ entry ∷ [];
-          whole = ap (λ l. l ++ entry ∷ []) front.whole ∙ append_assoc (get_or shards n (opening_shard 0 0)).front front.rest (entry ∷ []);
-        };
-        shard_is = reads.shard_is;
-        shards_are = reads.shards_are;
-      };
-}
 
 -- ---- a shard reads on
 

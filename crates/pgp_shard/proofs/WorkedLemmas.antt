@@ -1,5 +1,5 @@
 -- When groups were last worked out, as the groups change.
-use Rattle.pgp_shard.proofs.Common.{◌≡◌, ℕ, zero, suc, List, [], ◌∷◌, ◌++◌, Bool, true, false, ◌&&◌, not, cond, Option, Some, None, is_none, option_map, set, refl, sym, ap, ap₂, ◌∙◌, subst, arith, filter, and-false, slice_get, option_map_or, inl, inr, cases_eq, false_from_ne_true, true≢false, All-head, All-tail, none-some, slice_get-map, slice_get_within, get-set_other, get-set_same, none-at, none-each, View, PgId, is_same_group, AreAtPlaces, KeepsMarks, RenewsMarks, worked_of, marks_of, AreAllMarked, IsWorkedOut, ids_of, lacks_view, marks_in, worked_count, worked_in, is_among, worked_at, Groups, KeptGroup}
+use Rattle.pgp_shard.proofs.Common.{◌≡◌, ℕ, zero, suc, List, [], ◌∷◌, ◌++◌, Bool, true, false, ◌&&◌, not, cond, Option, Some, None, is_none, option_map, set, refl, sym, ap, ap₂, ◌∙◌, arith, filter, and-false, slice_get, option_map_or, inl, inr, cases_eq, false_from_ne_true, true≢false, All-head, All-tail, none-some, slice_get-map, slice_get_within, get-set_other, get-set_same, none-at, none-each, View, PgId, is_same_group, AreAtPlaces, KeepsMarks, RenewsMarks, worked_of, marks_of, AreAllMarked, IsWorkedOut, ids_of, lacks_view, marks_in, worked_count, worked_in, is_among, worked_at, Groups, KeptGroup}
 use Rattle.std.specs.HashMap as hash
 use Rattle.pgp_log.proofs.TakeLemmas.{same-self}
 use Rattle.pgp_shard.proofs.GroupsLemmas.{missing-group, other-group, place-holds}
@@ -80,13 +80,6 @@ renews-none count groups = record {
   marks = λ pg is. is;
   worked = λ pg. still (is_among pg (marks_of groups)) count (worked_of groups pg);
 }
-
--- what is kept of a group stays, except for its view, which isn't worked out
-pub unworked : (count : ℕ) (kept after : KeptGroup) → after.view ≡ kept.view → IsWorkedOut count kept after
-unworked count kept after same =
-    subst (λ (v : Option View). (is_none v ≡ true → is_none kept.view ≡ true)
-    × (option_map_or (λ w. w.count) v 0 ≡ cond (is_none kept.view && not (is_none v)) count (option_map_or (λ w. w.count) kept.view 0)))
-    (sym same) ((λ lacks. lacks), still (is_none kept.view) count (worked_count kept))
 
 worked-twice : (a b c : Bool) (count x y z : ℕ) → (b ≡ true → a ≡ true) → (c ≡ true → b ≡ true) → y ≡ cond (a && not b) count x → z ≡ cond (b && not c) count y → z ≡ cond (a && not c) count x
 worked-twice true true true count x y z was is one two = two ∙ one

@@ -12,16 +12,11 @@ ghost use Rattle.pgp_group.specs.View.{scratch};
 ghost use Rattle.pgp_group.specs.Examples.{known_up, before_serving, until_serving};
 ghost use Rattle.pgp_log.specs.Log.{is_legal};
 ghost use Rattle.pgp_shard.specs.Shard.{shard_of};
-ghost use Rattle.pgp_shard.specs.World.{World, Step, Reply, opening_world, after, after_all, replies, view_reply};
+ghost use Rattle.pgp_shard.specs.World.{World, Step, Reply, opening_world, after_all, replies, view_reply};
 ghost use Rattle.pgp_shard.specs.WorldRun.{MayRun, IsDone, is_want, taken_of};
 ghost use Rattle.pgp_shard.specs.World.Step.{Submit, Absorb, Ask};
 ghost use Rattle.pgp_shard.specs.World.Reply.{Submitted, Absorbed, Asked};
 ghost use Rattle.pgp_shard.specs.Examples.{submits};
-
-/// The log of a world stays legal.
-pub fn world_stays_legal()
-    ensures { (w : World) (step : Step) → is_legal w.log ≡ true → is_legal (after w step).log ≡ true }
-{}
 
 /// A run in which no step is out of memory is answered as the definition says; and each run is the definition's run of the steps
 /// that there was memory for, of which a shard's reading may have been cut short. In each run the log grows by the entries

@@ -9,7 +9,7 @@ ghost use Rattle.pgp_map.specs.MapOf.{IsMapOf};
 ghost use Rattle.pgp_map.specs.NumberSet.{has};
 ghost use Rattle.pgp_map.specs.Pools.{is_same_group};
 ghost use Rattle.pgp_log.specs.MapBefore.{IsMapBefore, moves_some};
-ghost use Rattle.pgp_shard.specs.kept.Rows.{IsChangesOf, devices_for, may_concern, may_place, may_place_group, temp_key};
+ghost use Rattle.pgp_shard.specs.kept.Rows.{IsChangesOf, may_concern, may_place_group, temp_key};
 
 use super::osd_filter::OsdFilter;
 use pgp_ids::{Incremental, PgId, TempList};
@@ -34,8 +34,13 @@ impl Row {
     pub(crate) fn is_passed_by(&self, changes: &Changes, inc: &Incremental) -> bool
         ensures { result ≡ not (may_concern changes.now inc.now self.now) }
     {
-        let placed = changes.may_place(self.marked) && changes.may_place_group(inc, &self.pg);
-        !placed && !self.devices.shares(changes.devices_for(self.marked))
+        let (places, devices) = if self.marked {
+            (changes.moves, changes.movers)
+        } else {
+            (changes.places, changes.devices)
+        };
+        let placed = places && changes.may_place_group(inc, &self.pg);
+        !placed && !self.devices.shares(devices)
     }
 }
 
@@ -77,13 +82,6 @@ impl Changes {
         }
     }
 
-    /// The incremental may change where some group lies, whatever becomes of devices, by whether the group is marked.
-    fn may_place(&self, marked: bool) -> bool
-        ensures { result ≡ may_place marked self.now }
-    {
-        if marked { self.moves } else { self.places }
-    }
-
     /// The incremental, of which these are the changes, may change where the group lies, whatever becomes of devices. Its pg_temp
     /// lists are looked through for few groups that have none there.
     fn may_place_group(&self, inc: &Incremental, pg: &PgId) -> bool
@@ -92,13 +90,6 @@ impl Changes {
         moves_all(inc)
             || changes_pool(inc, pg.pool)
             || self.temps.contains(temp_key(*pg)) && changes_temp(inc, pg)
-    }
-
-    /// The devices that concern a group, by whether it is marked.
-    fn devices_for(&self, marked: bool) -> OsdFilter
-        ensures { result ≡ devices_for marked self.now }
-    {
-        if marked { self.movers } else { self.devices }
     }
 }
 

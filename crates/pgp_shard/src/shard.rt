@@ -8,10 +8,10 @@ ghost use Rattle.pgp_group.specs.Entries.{incs_of};
 ghost use Rattle.pgp_group.specs.Touched.{view_at};
 ghost use Rattle.pgp_group.specs.View.{scratch};
 ghost use Rattle.pgp_log.specs.Fits.{is_closed, fits};
-ghost use Rattle.pgp_shard.specs.kept.Groups.{AreOwnGroupsOf, AreWorkedAt, CanReadOn, IsKeptBeside, OfNextBeside, marks_of, shard_with};
+ghost use Rattle.pgp_shard.specs.kept.Groups.{AreMadeBeside, CanReadOn, IsKeptBeside, OfNextBeside, shard_with};
 ghost use Rattle.pgp_log.specs.Log.{HasInc, IsFrontOf, epoch_of, is_legal};
 ghost use Rattle.pgp_shard.specs.Running.{IsReading};
-ghost use Rattle.pgp_shard.specs.Shard.{opening_shard, having_read, having_read_all, having_read_front, HasReadFewer, HasReadSame, HasReadSome, shard_of, is_own, is_marked, AreMarked, HaveChanged, MarksOnlyTouched, IsUnmarked, AreUnmarked, WorksOutMarks};
+ghost use Rattle.pgp_shard.specs.Shard.{opening_shard, having_read, having_read_all, having_read_front, HasReadFewer, HasReadSame, HasReadSome, shard_of, is_own, is_marked, HaveChanged, MarksOnlyTouched, IsUnmarked, AreUnmarked, WorksOutMarks};
 
 use super::copies::copy_at;
 use super::groups::Groups;
@@ -106,7 +106,7 @@ impl ShardState {
     {
         self.front.reserve(1)?;
         let copy = Arc::try_clone(entry)?;
-        self.groups = read_on(self.owner, self.groups.take(), entry)?;
+        read_on(self.owner, &mut self.groups, entry)?;
         self.front.push_reserved(copy);
         Ok(())
     }
@@ -153,15 +153,17 @@ impl ShardState {
         ensures marks { result ≢ Err Memory → IsUnmarked pg.now self.old self.new }
         ensures worked { result ≢ Err Memory → WorksOutMarks self.old self.new }
     {
-        let mut groups = take_or_make(
+        make_groups(
             self.alloc,
             self.owner,
             self.front.as_slice(),
             &mut self.groups,
         )?;
-        let there = groups.work_out(pg, self.front.len());
-        self.groups = Some(groups);
-        if there? {
+        let count = self.front.len();
+        let Some(groups) = &mut self.groups else {
+            unreachable!();
+        };
+        if groups.work_out(pg, count)? {
             Ok(())
         } else {
             Err(AskRefusal::UnknownGroup)
@@ -240,16 +242,17 @@ impl ShardState {
         ensures wants { OnErr result (HasInc self.old.front) }
         ensures wants_marked { OnErr result (IfSome self.old.marks (λ marks. 0 < min max (length marks))) }
     {
-        let count = self.front.len();
-        let mut groups = take_or_make(
+        make_groups(
             self.alloc,
             self.owner,
             self.front.as_slice(),
             &mut self.groups,
         )?;
-        let left = groups.renew(max, count);
-        self.groups = Some(groups);
-        left
+        let count = self.front.len();
+        let Some(groups) = &mut self.groups else {
+            unreachable!();
+        };
+        groups.renew(max, count)
     }
 
     /// The groups that may have changed since the shard had read this many entries, each once, in the order in which the map got
@@ -262,15 +265,16 @@ impl ShardState {
         ensures changed { IfOk result (λ ids. HaveChanged count self.new ids.items) }
         ensures wants { OnErr result (HasInc self.old.front) }
     {
-        let groups = take_or_make(
+        make_groups(
             self.alloc,
             self.owner,
             self.front.as_slice(),
             &mut self.groups,
         )?;
-        let newer = groups.newer(count);
-        self.groups = Some(groups);
-        newer
+        let Some(groups) = &self.groups else {
+            unreachable!();
+        };
+        groups.newer(count)
     }
 }
 
@@ -287,39 +291,47 @@ fn unread_entries(entries: &[Arc<Entry>], read: usize, count: usize) -> &[Arc<En
     }
 }
 
-/// Takes out what is kept beside the entries, or makes it of them where nothing is.
-fn take_or_make(
+/// Makes what is kept beside the entries of them, where nothing is.
+fn make_groups(
     alloc: Global,
     owner: Owner,
     entries: &[Arc<Entry>],
     kept: &mut Option<Groups>,
-) -> Result<Groups, AllocError>
+) -> Result<(), AllocError>
     requires { IsKeptBeside owner (map arc_value entries.now) kept.old }
-    ensures is { IfOk result (AreOwnGroupsOf owner (map arc_value entries.now)) }
-    ensures marks { IfOk result (λ groups. AreMarked (shard_with owner (map arc_value entries.now) kept.old) (marks_of groups)) }
-    ensures worked { IfOk result (AreWorkedAt (shard_with owner (map arc_value entries.now) kept.old)) }
-    ensures taken { kept.new ≡ None }
+    ensures there { OnOk result (is_some kept.new ≡ true) }
+    ensures made { OnOk result (IfSome kept.new (AreMadeBeside owner (map arc_value entries.now) kept.old)) }
     ensures wants { OnErr result (HasInc (map arc_value entries.now)) }
     ensures wants_away { OnErr result (kept.old ≡ None) }
+    ensures away { OnErr result (kept.new ≡ None) }
 {
-    match kept.take() {
-        Some(groups) => Ok(groups),
-        None => Groups::of(alloc, owner, entries),
+    match kept {
+        Some(_) => Ok(()),
+        None => {
+            *kept = Some(Groups::of(alloc, owner, entries)?);
+            Ok(())
+        }
     }
 }
 
-/// What is kept beside the entries when the next one is read, if anything is. Without memory for the entry it is given up.
-fn read_on(owner: Owner, kept: Option<Groups>, entry: &Entry) -> Result<Option<Groups>, AllocError>
-    requires { CanReadOn owner kept entry.now }
-    ensures is { IfOk result (λ left. OfNextBeside owner kept entry.now (λ log. IsKeptBeside owner (log ++ entry.now ∷ []) left)) }
-    ensures marks { IfOk result (λ left. OfNextBeside owner kept entry.now
-        (λ log. MarksOnlyTouched entry.now (shard_with owner log kept) (shard_with owner (log ++ entry.now ∷ []) left))) }
+/// Has what is kept beside the entries, if anything is, take the next one. Without memory for that it is given up.
+fn read_on(owner: Owner, kept: &mut Option<Groups>, entry: &Entry) -> Result<(), AllocError>
+    requires { CanReadOn owner kept.old entry.now }
+    ensures is { OnOk result (OfNextBeside owner kept.old entry.now (λ log. IsKeptBeside owner (log ++ entry.now ∷ []) kept.new)) }
+    ensures marks { OnOk result (OfNextBeside owner kept.old entry.now
+        (λ log. MarksOnlyTouched entry.now (shard_with owner log kept.old) (shard_with owner (log ++ entry.now ∷ []) kept.new))) }
+    ensures given_up { OnErr result (kept.new ≡ None) }
 {
-    let Some(mut groups) = kept else {
-        return Ok(None);
+    let Some(groups) = kept else {
+        return Ok(());
     };
-    groups.absorb(owner, entry)?;
-    Ok(Some(groups))
+    match groups.absorb(owner, entry) {
+        Ok(()) => Ok(()),
+        Err(AllocError) => {
+            *kept = None;
+            Err(AllocError)
+        }
+    }
 }
 
 /// The shard, of this many, that answers for the group.

@@ -48,12 +48,7 @@ impl World {
         requires { 0 < shards }
         ensures { IfOk result (λ world. world ≡ opening_world shards) }
     {
-        let all = opening_shards(alloc, shards)?;
-        let world = World {
-            log: JudgedLog::new(alloc),
-            shards: all,
-        };
-        Ok(world)
+        World::over(alloc, shards, &[])
     }
 
     /// The world of this many shards whose log is these entries, of which no shard has read one yet. It shares them.

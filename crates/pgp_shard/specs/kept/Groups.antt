@@ -18,7 +18,7 @@ use Rattle.pgp_log.specs.Fits.{fits}
 use Rattle.pgp_shard.specs.kept.KeptGroup.{AreAllMarked, AreKeptOf, IsStep, ids_of, lacks_view, marks_in, worked_in}
 use Rattle.pgp_shard.specs.kept.Rows.{AreRowsOf, IsRowOf}
 use Rattle.pgp_log.specs.Log.{is_legal}
-use Rattle.pgp_shard.specs.Shard.{Shard, is_among, is_own, worked_at}
+use Rattle.pgp_shard.specs.Shard.{AreMarked, Shard, is_among, is_own, worked_at}
 use Rattle.pgp_log.specs.declared.before.MapBefore.{MapBefore}
 use Rattle.pgp_shard.specs.declared.groups.Groups.{Groups}
 use Rattle.pgp_shard.specs.declared.kept_group.KeptGroup.{KeptGroup}
@@ -225,3 +225,9 @@ shard_with owner log groups = record {
 -- the groups were last worked out when the shard says
 abbrev pub AreWorkedAt : Shard → Groups → Type 0
 AreWorkedAt s groups = (pg : PgId) → worked_of groups pg ≡ worked_at s.worked pg
+
+-- the groups follow from the log; where the shard kept nothing beside it, all are marked, and else they are those that it kept
+pub record AreMadeBeside (owner : Owner) (log : List Entry) (before : Option Groups) (groups : Groups) : Type 0 where
+  pub are : AreOwnGroupsOf owner log groups
+  pub marks : AreMarked (shard_with owner log before) (marks_of groups)
+  pub worked : AreWorkedAt (shard_with owner log before) groups

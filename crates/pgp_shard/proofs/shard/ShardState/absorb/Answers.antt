@@ -5,24 +5,23 @@ use Rattle.pgp_shard.proofs.shard.ShardState.absorb.Goals as goal
 pub read_on-requires : goal.read_on-requires
 read_on-requires c =
     let log : List Entry = map arc_value c.self.inside.front.items in
-    let found : Option Groups = c.self.inside.groups in
-    let same : found ≡ c.take.result = cc in
     record {
       log = log;
-      is = subst (IsKeptBeside c.self.inside.owner log) same c.self.invariant;
+      is = c.self.invariant;
       fits = ap (fits log) c.deref.ensures ∙ subst (λ (s : Shard). fits s.front (arc_value c.args.entry.now) ≡ None) (sym c.self.view_is) c.requires;
     }
+
+pub invariant_of-self-in_err-read_on : goal.invariant_of-self-in_err-read_on
+invariant_of-self-in_err-read_on c = record { legal = rw c.reserve.ensures.items c.self.invariant.legal; groups_are = rw c.in_err-read_on.ensures.given_up tt }
 
 pub invariant_of-self-2 : goal.invariant_of-self-2
 invariant_of-self-2 c =
     let log : List Entry = map arc_value c.self.inside.front.items in
-    let found : Option Groups = c.self.inside.groups in
-    let same : found ≡ c.take.result = cc in
     let fit : fits log c.deref.result.now ≡ None = ap (fits log) c.deref.ensures ∙ subst (λ (s : Shard). fits s.front (arc_value c.args.entry.now) ≡ None) (sym c.self.view_is) c.requires in
-    subst (λ (l : List Entry). IsKeptBeside c.self.inside.owner l c.in_ok-self-inside.field-0)
+    subst (λ (l : List Entry). IsKeptBeside c.self.inside.owner l c.read_on.new.kept)
     (sym (front-longer arc_value c.self.inside.front.items c.push_reserved.new.self.items c.in_ok-copy.copy c.deref.result.now
     (c.push_reserved.ensures.items ∙ ap (λ l. l ++ c.in_ok-copy.copy ∷ []) c.reserve.ensures.items) (c.in_ok-copy.ensures ∙ sym c.deref.ensures)))
-    (c.in_ok-self-inside.ensures.is log (subst (IsKeptBeside c.self.inside.owner log) same c.self.invariant) fit)
+    (c.in_ok-read_on.ensures.is log c.self.invariant fit)
 
 pub returns-clause-ok : goal.returns-clause-ok
 returns-clause-ok c =
@@ -39,15 +38,12 @@ pub returns-clause-marks : goal.returns-clause-marks
 returns-clause-marks c =
     let log : List Entry = map arc_value c.self.inside.front.items in
     let new : Entry = arc_value c.args.entry.now in
-    let left : Option Groups = c.in_ok-self-inside.field-0 in
+    let left : Option Groups = c.read_on.new.kept in
     let owner = c.self.inside.owner in
-    let found : Option Groups = c.self.inside.groups in
-    let same : found ≡ c.take.result = cc in
     let fit : fits log new ≡ None = subst (λ (s : Shard). fits s.front new ≡ None) (sym c.self.view_is) c.requires in
     let longer : map arc_value c.push_reserved.new.self.items ≡ log ++ new ∷ [] =
     front-longer arc_value c.self.inside.front.items c.push_reserved.new.self.items c.in_ok-copy.copy new
     (c.push_reserved.ensures.items ∙ ap (λ l. l ++ c.in_ok-copy.copy ∷ []) c.reserve.ensures.items) c.in_ok-copy.ensures in
     rw (← c.self.view_is)
-    (subst (λ (l : List Entry). MarksOnlyTouched new (shard_with owner log found) (shard_with owner l left)) (sym longer)
-    (subst (λ (o : Option Groups). MarksOnlyTouched new (shard_with owner log o) (shard_with owner (log ++ new ∷ []) left)) (sym same)
-    ((rw c.deref.ensures at c.in_ok-self-inside.ensures.marks) log (subst (IsKeptBeside owner log) same c.self.invariant) fit)))
+    (subst (λ (l : List Entry). MarksOnlyTouched new (shard_with owner log c.self.inside.groups) (shard_with owner l left)) (sym longer)
+    ((rw c.deref.ensures at c.in_ok-read_on.ensures.marks) log c.self.invariant fit))
