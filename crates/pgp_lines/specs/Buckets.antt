@@ -11,10 +11,6 @@ use Rattle.pgp_lines.specs.Ids.{byte_in, word_in}
 use Rattle.pgp_lines.specs.MadeBucket.{bucket_from}
 use Rattle.pgp_lines.specs.declared.command.buckets.Head.{Head}
 
--- the bucket's id, from -65536 to -1
-abbrev pub bucket_id_in : Data → Option ℤ
-bucket_id_in d = integer_in (negsuc 65535) (negsuc 0) d
-
 -- a bucket by its id, or a device by its number
 abbrev pub bucket_item_in : Data → Option ℤ
 bucket_item_in d = integer_in (negsuc 65535) (pos 65535) d
@@ -47,11 +43,11 @@ bucket_alg_in d = do
   alg ← field (codes "alg") alg_in d
   if has_only (bucket_keys alg) d then Some alg else None
 
--- what a bucket is, its lists aside
+-- what a bucket is, its lists aside; its id is from -65536 to -1
 abbrev pub head_in : Data → Option Head
 head_in d = do
   alg ← bucket_alg_in d
-  id ← field (codes "id") bucket_id_in d
+  id ← field (codes "id") (integer_in (negsuc 65535) (negsuc 0)) d
   kind ← field (codes "type") byte_in d
   Some (record { alg = alg; id = id; kind = kind })
 

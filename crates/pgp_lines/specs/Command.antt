@@ -1,17 +1,11 @@
 -- The command that a line is, in this project's own format over JSON (RFC 8259).
-use Rattle.std.specs.Prelude.{◌≡◌, ◌≤◌, ℕ, true, List, length, codes, if◌then◌else◌, Option, Some, None, Result, Ok, Err}
+use Rattle.std.specs.Prelude.{◌≤◌, ℕ, List, length, codes, if◌then◌else◌, Option, Some, None, Result, Ok, Err}
 use Rattle.std.specs.Option.{ok_or}
 use Rattle.std.specs.Str.{is_utf8}
 use Rattle.serde_json.specs.Data.{Data}
 use Rattle.serde_json.specs.Read.{read}
-use Rattle.pgp_ids.specs.Parts.{are_parts}
 use Rattle.pgp_ids.specs.Pool.{is_kind_by_place}
-use Rattle.pgp_ids.specs.declared.entry.Entry.{Entry}
 use Rattle.pgp_ids.specs.declared.entry.Entry.TheVariants.{Inc, Info, Entries, Close}
-use Rattle.pgp_ids.specs.declared.member.Member.{Member}
-use Rattle.pgp_ids.specs.declared.pg_id.PgId.{PgId}
-use Rattle.pgp_ids.specs.declared.pool.PoolKind.{PoolKind}
-use Rattle.pgp_ids.specs.declared.pool.PoolKind.TheVariants.{Replicated, Erasure, Grouped}
 use Rattle.pgp_lines.specs.LineFault.{LineFault, not_json, no_op, unknown_key, ◌>>=◌}
 use Rattle.pgp_lines.specs.Op.{op_in, op_keys}
 use Rattle.pgp_lines.specs.Shapes.{unknown_key_in, required}
@@ -76,31 +70,7 @@ command_of last bytes = do
   d ← ok_or (data_of bytes) not_json
   command_in last d
 
--- a pool's kind as a trace can give it
-abbrev pub IsTraceCode : PoolKind → Type 0
-IsTraceCode Replicated = Unit {0}
-IsTraceCode (Erasure k) = (1 ≤ k) × (k ≤ 16)
-IsTraceCode (Grouped groups) = are_parts 16 groups ≡ true
-
--- a group as a line can name it
-abbrev pub IsGroup : PgId → Type 0
-IsGroup pg = (1 ≤ pg.pool) × (pg.pool ≤ 255) × (pg.pg ≤ 1023)
-
--- a member as a line can name it
-abbrev pub IsMember : Member → Type 0
-IsMember member = (member.osd ≤ 4095) × (member.slot ≤ 15)
-
--- of each entry what its line has to meet: a report has 1 to 256 log entries
-abbrev pub IsEntry : Entry → Type 0
-IsEntry (Inc inc) = Unit {0}
-IsEntry (Info info) = IsGroup info.pg × IsMember info.member
-IsEntry (Entries report) = IsGroup report.pg × IsMember report.member × (1 ≤ length report.log) × (length report.log ≤ 256)
-IsEntry Close = Unit {0}
-
--- Of each command what its line has to meet: a trace has 1 to 4,096 epochs, an erasure code 1 to 16 data shards, and a grouped code parts that a
--- pool of size 16 can have; the name of an object has 1 to 255 bytes.
+-- of each command what the next layer needs to know of its line: how many epochs a trace has at most
 abbrev pub IsInRange : Command → Type 0
-IsInRange (Submit entry) = IsEntry entry
-IsInRange (Ask pg) = IsGroup pg
-IsInRange (Locate pool name) = (1 ≤ pool) × (pool ≤ 255) × (1 ≤ length name) × (length name ≤ 255)
-IsInRange (Trace code epochs) = IsTraceCode code × (1 ≤ length epochs) × (length epochs ≤ 4096)
+IsInRange (Trace code epochs) = length epochs ≤ 4096
+IsInRange _ = Unit {0}

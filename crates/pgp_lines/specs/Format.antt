@@ -28,13 +28,10 @@ format_number Three = 3
 abbrev pub format_numbered : ℕ → Format
 format_numbered n = if nat_eq n 1 then One else (if nat_eq n 2 then Two else Three)
 
--- the version of a number from 1 to that of the last
-abbrev pub format_in : Format → Data → Option Format
-format_in last d = option_map format_numbered (number_in 1 (format_number last) d)
-
+-- the version that the key `v` gives, if it is there: a number from 1 to that of the last
 abbrev pub format_at : Format → Option Data → Option Format
 format_at last None = Some One
-format_at last (Some d) = format_in last d
+format_at last (Some d) = option_map format_numbered (number_in 1 (format_number last) d)
 
 -- the version that a line names, where it is one that is read
 abbrev pub format_of : Format → Data → Option Format

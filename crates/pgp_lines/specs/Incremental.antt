@@ -16,10 +16,6 @@ use Rattle.pgp_lines.specs.declared.command.format.Format.{Format}
 abbrev pub list_at : {A : Type 0} → List ℕ → (Data → Option A) → Data → Result (List A) LineFault
 list_at key shape d = optional key (list_of shape) [] d
 
--- the epoch of the map that is changed, where the line names one
-abbrev pub after_in : Data → Option (Option ℕ)
-after_in d = option_map Some (word_in d)
-
 -- With the tree, the epochs and the devices that go, in a line of this version. Where it names no map that it changes, that is the one of the
 -- epoch before its own.
 abbrev pub with_down : Format → Option ℕ → Incremental → Data → Result Incremental LineFault
@@ -53,7 +49,7 @@ with_up format inc d = do
 -- the line of an incremental, which names this version: its keys are judged in ascending byte order, so the least bad one is named
 abbrev pub inc_of_line : Format → Option Format → Data → Result Incremental LineFault
 inc_of_line last format d = do
-  after ← optional (codes "after") after_in None d
+  after ← optional (codes "after") (λ after. option_map Some (word_in after)) None d
   down ← with_down (read_in last format) after (no_change 0 0) d
   pools ← with_pools (read_in last format) down d
   with_up format pools d

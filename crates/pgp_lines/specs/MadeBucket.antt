@@ -7,16 +7,10 @@ use Rattle.pgp_ids.specs.Bucket.{weight_count}
 use Rattle.pgp_ids.specs.declared.bucket.BucketAlg.{BucketAlg}
 use Rattle.pgp_ids.specs.declared.bucket.BucketSpec.{BucketSpec}
 
--- the id is from -65536 to -1
-abbrev pub is_bucket_id : ℤ → Bool
-is_bucket_id id = int_le (negsuc 65535) id && int_lt id (pos 0)
-
--- it has a weight for each item, or none in a uniform bucket
-abbrev pub is_weighed : BucketAlg → List ℤ → List ℕ → Bool
-is_weighed alg items weights = nat_eq (length weights) (weight_count alg (length items))
-
+-- the id is from -65536 to -1, and it has a weight for each item, or none in a uniform bucket
 abbrev pub is_bucket : ℤ → BucketAlg → List ℤ → List ℕ → Bool
-is_bucket id alg items weights = is_bucket_id id && is_weighed alg items weights
+is_bucket id alg items weights =
+    (int_le (negsuc 65535) id && int_lt id (pos 0)) && nat_eq (length weights) (weight_count alg (length items))
 
 -- what a test that holds makes
 abbrev pub made_if : {A : Type 0} (test : Bool) → (test ≡ true → A) → Option A

@@ -42,12 +42,11 @@ pool_fields_in kind d = do
   leaf ← field (codes "leaf") byte_in d
   Some (record { id = id; pg_num = pg_num; kind = kind; size = size; min_size = min_size; leaf = leaf })
 
-abbrev pub pool_of_kind : Data → PoolKind → Option PoolSpec
-pool_of_kind d kind = if has_only (pool_keys kind) d then pool_fields_in kind d else None
-
 -- a pool's object: the fields of its kind, and no other
 abbrev pub pool_in : Data → Option PoolSpec
-pool_in d = option_and_then (pool_of_kind d) (pool_kind_in d)
+pool_in d = do
+  kind ← pool_kind_in d
+  if has_only (pool_keys kind) d then pool_fields_in kind d else None
 
 -- [pool, size, min_size]
 abbrev pub pool_sizes_in : Data → Option PoolSizes

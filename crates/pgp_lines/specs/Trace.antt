@@ -6,8 +6,6 @@ use Rattle.serde_json.specs.Data.{Data}
 use Rattle.pgp_ids.specs.Osds.{first_osd}
 use Rattle.pgp_ids.specs.Parts.{are_parts}
 use Rattle.pgp_ids.specs.declared.history.EpochState.{EpochState}
-use Rattle.pgp_ids.specs.declared.history.PrimaryFacts.{PrimaryFacts}
-use Rattle.pgp_ids.specs.declared.membership.Membership.{Membership}
 use Rattle.pgp_lines.specs.Format.{has_pool_kind}
 use Rattle.pgp_lines.specs.Ids.{place_in, word_in}
 use Rattle.pgp_lines.specs.Pools.{pool_kind_in}
@@ -36,21 +34,19 @@ code_in format d = do
 abbrev pub osds_in : Bool → Data → Option (List (Option ℕ))
 osds_in nulls d = list_in 0 16 (place_in nulls) d
 
--- whom a group has: each primary is the first device of its list
-abbrev pub traced_membership : List (Option ℕ) → List (Option ℕ) → ℕ → ℕ → Membership
-traced_membership up acting size min_size = record {
-  up = up;
-  up_primary = first_osd up;
-  acting = acting;
-  acting_primary = first_osd acting;
-  size = size;
-  min_size = min_size;
-}
-
--- an epoch's state
+-- an epoch's state: each primary is the first device of its list
 abbrev pub epoch_state : List (Option ℕ) → List (Option ℕ) → ℕ → ℕ → ℕ → ℕ → EpochState
-epoch_state up acting size min_size up_from up_thru =
-    record { members = traced_membership up acting size min_size; facts = record { up_from = up_from; up_thru = up_thru } }
+epoch_state up acting size min_size up_from up_thru = record {
+  members = record {
+    up = up;
+    up_primary = first_osd up;
+    acting = acting;
+    acting_primary = first_osd acting;
+    size = size;
+    min_size = min_size;
+  };
+  facts = record { up_from = up_from; up_thru = up_thru };
+}
 
 -- the keys that an epoch's object must have
 abbrev pub epoch_keys : List (List ℕ)

@@ -24,6 +24,7 @@ mod trace;
 mod trail;
 mod value;
 
+pub use buckets::bucket_of;
 use bumpalo::Bump;
 pub use format::Format;
 use format::{read_format, read_in};

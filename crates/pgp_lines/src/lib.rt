@@ -11,4 +11,4 @@
 mod command;
 pub mod laws;
 
-pub use command::{Command, Format, LineReader, MAX_EPOCHS, Op, read_line};
+pub use command::{Command, Format, LineReader, MAX_EPOCHS, Op, bucket_of, read_line};

@@ -1,9 +1,8 @@
 //! The buckets of a placement tree.
-ghost use Rattle.std.specs.Prelude.{◌≡◌, map, IfOk, codes};
+ghost use Rattle.std.specs.Prelude.{◌≡◌, map, IfOk};
 ghost use Rattle.pgp_lines.specs.Value.{view};
-ghost use Rattle.pgp_lines.specs.Shapes.{field};
 ghost use Rattle.pgp_lines.specs.MadeBucket.{bucket_from};
-ghost use Rattle.pgp_lines.specs.Buckets.{bucket_id_in, bucket_item_in, alg_in, bucket_keys, bucket_alg_in, head_in, weights_in, bucket_in};
+ghost use Rattle.pgp_lines.specs.Buckets.{bucket_item_in, alg_in, bucket_keys, head_in, weights_in, bucket_in};
 
 use super::fields::{read_at, read_field};
 use super::lists::{Plain, Shape};
@@ -108,7 +107,7 @@ fn read_weights(
 }
 
 /// The bucket of these parts, where its id is one of a bucket and it has as many weights as it needs.
-fn bucket_of(
+pub fn bucket_of(
     id: i32,
     kind: u8,
     alg: BucketAlg,

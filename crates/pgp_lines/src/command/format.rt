@@ -103,7 +103,7 @@ impl Format {
     }
 
     /// Whether it has the key `after` of an incremental.
-    pub(super) fn has_after(self) -> bool
+    pub fn has_after(self) -> bool
         ensures { result ≡ has_after self }
     {
         matches!(self, Format::Three)
@@ -117,7 +117,7 @@ impl Format {
     }
 
     /// Whether it has each bucket of the tree, where there is one.
-    pub(super) fn has_tree(self, tree: &Option<Seq<BucketSpec>>) -> bool
+    pub fn has_tree(self, tree: &Option<Seq<BucketSpec>>) -> bool
         ensures { result ≡ has_tree self tree.now }
     {
         match tree {

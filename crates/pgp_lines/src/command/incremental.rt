@@ -1,5 +1,4 @@
 //! The line of a map incremental.
-ghost use Rattle.std.specs.Prelude.{◌≡◌};
 ghost use Rattle.pgp_lines.specs.Value.{view};
 ghost use Rattle.pgp_lines.specs.LineFault.{IsRead, PutsRead};
 ghost use Rattle.pgp_lines.specs.Incremental.{with_down, with_pools, with_up, inc_of_line};

@@ -1,6 +1,6 @@
 //! The operations, in one table: the name of each, the keys that its line may have, and what reads the values at them.
 
-ghost use Rattle.std.specs.Prelude.{◌≡◌, ◌∷◌, codes, if◌then◌else◌, Ok, Err, map, IfOk, IfErr, IfSome};
+ghost use Rattle.std.specs.Prelude.{◌≡◌, ◌∷◌, codes, if◌then◌else◌, Ok, map};
 ghost use Rattle.pgp_lines.specs.Value.{view};
 ghost use Rattle.pgp_lines.specs.LineFault.{IsRead};
 ghost use Rattle.pgp_lines.specs.Op.{inc_keys, op_keys, op_name, op_named};

@@ -1,6 +1,6 @@
 //! The lines of a member's info, of a part of its log, and of the question where an object lies. The keys of each are read in
 //! ascending byte order, so that the least bad one is told.
-ghost use Rattle.std.specs.Prelude.{◌≡◌, codes};
+ghost use Rattle.std.specs.Prelude.{codes};
 ghost use Rattle.pgp_lines.specs.Value.{view};
 ghost use Rattle.pgp_lines.specs.LineFault.{IsRead};
 ghost use Rattle.pgp_lines.specs.Shapes.{required};

@@ -22,7 +22,6 @@ pub fn straw2_trees()
 
 /// No other version has them, and version 3 is read on request alone.
 pub fn straw2_in_other_versions()
-    ensures without_v { command_of Three (root_line [] straw2_bucket) ≡ Err (bad_field (codes "crush")) }
     ensures version_1 { command_of Three (root_line (codes "\"v\":1,") straw2_bucket) ≡ Err (bad_field (codes "crush")) }
     ensures version_2 { command_of Three (root_line (codes "\"v\":2,") straw2_bucket) ≡ Err (bad_field (codes "crush")) }
     ensures not_read { command_of Two (root_line (codes "\"v\":3,") straw2_bucket) ≡ Err (bad_field (codes "crush")) }
@@ -50,8 +49,6 @@ pub fn incrementals_after_a_map()
 pub fn no_epoch_of_a_map()
     ensures fraction { command_of Three (inc_of_three (codes "\"epoch\":1,\"after\":0.0")) ≡ Err (bad_field (codes "after")) }
     ensures too_large { command_of Three (inc_of_three (codes "\"epoch\":1,\"after\":4294967296")) ≡ Err (bad_field (codes "after")) }
-    ensures negative { command_of Three (inc_of_three (codes "\"epoch\":1,\"after\":-1")) ≡ Err (bad_field (codes "after")) }
-    ensures null { command_of Three (inc_of_three (codes "\"epoch\":1,\"after\":null")) ≡ Err (bad_field (codes "after")) }
     ensures before_a_tree { command_of Three (inc_of_three (codes "\"epoch\":1,\"crush\":0,\"after\":null")) ≡ Err (bad_field (codes "after")) }
     ensures unknown_key { command_of Three (inc_of_three (codes "\"epoch\":1,\"after\":null,\"z\":0")) ≡ Err (unknown_key (codes "z")) }
     ensures of_a_close { command_of Three (codes "{\"op\":\"close\",\"v\":3,\"after\":0}") ≡ Err (unknown_key (codes "after")) }
@@ -59,7 +56,6 @@ pub fn no_epoch_of_a_map()
 
 /// No other version has that key. A line whose version isn't read has the keys of the last that is.
 pub fn after_in_other_versions()
-    ensures without_v { command_of Three (inc_with (codes "\"after\":0")) ≡ Err (unknown_key (codes "after")) }
     ensures version_1 { command_of Three (inc_with (codes "\"v\":1,\"after\":0")) ≡ Err (unknown_key (codes "after")) }
     ensures version_2 { command_of Three (inc_with (codes "\"v\":2,\"after\":0")) ≡ Err (unknown_key (codes "after")) }
     ensures version_4 { command_of Three (inc_with (codes "\"v\":4,\"after\":0")) ≡ Err (bad_field (codes "v")) }

@@ -79,7 +79,6 @@ pub fn no_pools()
         ∷ codes "\"pools\":[{\"id\":1,\"pg_num\":1,\"kind\":\"replicated\",\"size\":3,\"min_size\":2,\"leaf\":0,\"k\":2}]"
         ∷ codes "\"pools\":[{\"id\":1,\"pg_num\":1,\"kind\":\"erasure\",\"size\":3,\"min_size\":2,\"leaf\":0}]"
         ∷ codes "\"pools\":[{\"id\":1,\"pg_num\":1,\"kind\":\"erasure\",\"size\":3,\"min_size\":2,\"leaf\":0,\"k\":256}]"
-        ∷ codes "\"pools\":[{\"id\":1,\"pg_num\":1,\"kind\":\"replicated\",\"size\":3,\"min_size\":2,\"leaf\":0,\"z\":0}]"
         ∷ codes "\"pools\":[{\"id\":1,\"pg_num\":1,\"kind\":\"replicated\",\"size\":3,\"min_size\":2}]" ∷ []) }
     ensures bad_sizes { AreBad inc_with (codes "sizes") (
         codes "\"sizes\":[[0,3,2]]" ∷ codes "\"sizes\":[[1,3]]" ∷ codes "\"sizes\":[[1,3,256]]" ∷ []) }
