@@ -1,18 +1,10 @@
 -- The answers of the worked laws, and what they are written of.
-use Rattle.std.specs.Prelude.{ℕ, List, [], ◌∷◌, ◌++◌, codes, true, Some, None, ⊤}
-use Rattle.std.specs.Fmt.{digits}
-use Rattle.std.specs.Str.{is_utf8, chars}
-use Rattle.serde_json.proofs.OnLiterals.{serde_json_on_literals}
+use Rattle.std.specs.Prelude.{ℕ, List, [], ◌∷◌, ◌++◌, codes, true, Some, None}
 use Rattle.pgp_ids.specs.declared.membership.Membership.{Membership}
 use Rattle.pgp_ids.specs.declared.past.Past.{Past}
 use Rattle.pgp_ids.specs.declared.peer.PeerState.TheVariants.{Missing, Backfill, Diverged}
 use Rattle.pgp_ids.specs.declared.verdict.Verdict.TheVariants.{NeedUpThru}
 use Rattle.pgp_ids.specs.declared.view.View.{View}
-
--- nothing but a name for the list below: a proof that unfolds it sees answers computed
-unfoldable pub replies_computed : ⊤
-unfolding is_utf8 chars digits serde_json_on_literals
-replies_computed = tt
 
 -- a membership with an empty place in its acting list and no device in its up list
 abbrev pub members_with_holes : Membership

@@ -1,12 +1,13 @@
 //! Worked answers.
-#![tactic(auto, unfolding(crate::specs::WorkedReplies::replies_computed))]
+#![tactic(auto, unfolding(pgp_lines::specs::WorkedLines::text_computed))]
 
 ghost use Rattle.std.specs.Prelude.{◌≡◌, [], ◌∷◌, codes};
 ghost use Rattle.pgp_ids.specs.declared.ask_refusal.AskRefusal.TheVariants as ask;
 ghost use Rattle.pgp_ids.specs.declared.locate_refusal.LocateRefusal.TheVariants as locate;
 ghost use Rattle.pgp_ids.specs.declared.refusal.Refusal.TheVariants as entry;
 ghost use Rattle.pgp_ids.specs.declared.text_fault.TextFault.TheVariants as line;
-ghost use Rattle.pgp_text.specs.Reply.{reply_text};
+ghost use Rattle.pgp_lines.specs.LineFault.{bad_field};
+ghost use Rattle.pgp_text.specs.Reply.{fault_text, reply_text};
 ghost use Rattle.pgp_text.specs.WorkedReplies.{members_with_holes, interval_with_holes, traced_answer, located_answer, known_view, asked_answer};
 ghost use Rattle.pgp_text.specs.declared.reply.Reply.TheVariants.{Accepted, Asked, Located, Traced, Refused};
 ghost use Rattle.pgp_text.specs.declared.reply.entry_op.EntryOp.TheVariants as op;
@@ -30,6 +31,8 @@ pub fn refused_lines()
         ≡ codes "{\"code\":30,\"refused\":\"LineTooLong\"}" }
     ensures no_json { reply_text (Refused (Line line.NotJson))
         ≡ codes "{\"code\":31,\"refused\":\"NotJson\"}" }
+    ensures bad_key { fault_text (bad_field (codes "pg"))
+        ≡ codes "{\"code\":34,\"key\":\"pg\",\"refused\":\"BadField\"}" }
     ensures no_operation { reply_text (Refused (Line line.NoOp))
         ≡ codes "{\"code\":32,\"refused\":\"NoOp\"}" }
     ensures memory { reply_text (Refused (Line line.Memory))
