@@ -6,15 +6,7 @@ use Rattle.pgp_core.specs.declared.want.Want.{Want}
 abbrev pub without_want : ℕ → List (Option Want)
 without_want lines = replicate lines None
 
--- the line of an incremental that makes pool 1 of three copies over three devices, of which the first alone has weight
-abbrev pub copies_line : List ℕ
-copies_line =
-    codes "{\"op\":\"inc\",\"epoch\":1,\"up\":[0,1,2],\"weight\":[[1,0],[2,0]],"
-    ++ codes "\"crush\":[{\"id\":-1,\"type\":1,\"alg\":\"uniform\",\"items\":[0,1,2]}],"
-    ++ codes "\"pools\":[{\"id\":1,\"pg_num\":1,\"kind\":\"replicated\",\"size\":3,\"min_size\":2,\"leaf\":0}],"
-    ++ codes "\"temp\":[[1,0,[0,1,2]]]}"
-
--- the answer where an object of that pool lies
+-- the answer where an object of the pool of `replicated_line` lies
 abbrev pub copies_located : List ℕ
 copies_located =
     codes "{\"acting\":[0,1,2],\"acting_primary\":0,\"epoch\":1,\"ok\":\"locate\",\"pg\":[1,0],\"up\":[0],"

@@ -30,10 +30,6 @@ last_line (byte ∷ bytes) = (byte ∷ bytes) ∷ []
 abbrev pub lines_of : List ℕ → List (List ℕ)
 lines_of bytes = (cut bytes).whole ++ last_line (cut bytes).rest
 
--- a space, a tab or a carriage return
-abbrev pub is_blank_byte : ℕ → Bool
-is_blank_byte byte = nat_eq byte 32 || (nat_eq byte 9 || nat_eq byte 13)
-
--- only blanks, or nothing
+-- only spaces, tabs and carriage returns, or nothing
 abbrev pub is_blank : List ℕ → Bool
-is_blank line = list_all is_blank_byte line
+is_blank line = list_all (λ byte. nat_eq byte 32 || (nat_eq byte 9 || nat_eq byte 13)) line

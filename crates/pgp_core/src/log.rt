@@ -164,7 +164,17 @@ impl Log {
     pub fn work(&mut self, max: usize) -> Result<usize, AllocError>
         ensures { self.new ≡ self.old }
     {
-        work_on(&mut self.shard, &self.log, max)
+        // Before the first entry the shard makes its groups, which are none: else the first question would make them of all entries
+        // at once.
+        if self.shard.count() == 0 {
+            self.shard.renew(0)?;
+        }
+        let unread = self.log.len() - self.shard.count();
+        self.shard.absorb_next(self.log.entries(), max)?;
+        if max < unread {
+            return Ok(unread - max);
+        }
+        self.shard.renew(max - unread)
     }
 
     /// The groups that may have changed since the log had this many entries, each once, in the order in which its map got them. Of each
@@ -173,7 +183,8 @@ impl Log {
         ensures changed { IfOk result (λ ids. AreAllChanged count self.old ids.items) }
         ensures same { self.new ≡ self.old }
     {
-        changed_since(&mut self.shard, &self.log, count)
+        self.shard.absorb_next(self.log.entries(), self.log.len())?;
+        self.shard.changed_since(count)
     }
 
     /// The reply to an entry. Where the log takes it, the log has it from now on.
@@ -259,37 +270,6 @@ fn read_for(shard: &mut ShardState, log: &JudgedLog, pg: &PgId) -> Result<bool, 
     }
     shard.absorb_next(log.entries(), log.len())?;
     Ok(true)
-}
-
-/// Has the only shard of a log read entries of it, and work out groups where it has read all, in at most `max` steps. How many are left.
-/// Before the first entry it makes its groups, which are none: else the first question would make them of all entries at once.
-fn work_on(shard: &mut ShardState, log: &JudgedLog, max: usize) -> Result<usize, AllocError>
-    requires { IsReading log.now 1 0 shard.old }
-    ensures { IsReading log.now 1 0 shard.new }
-{
-    if shard.count() == 0 {
-        shard.renew(0)?;
-    }
-    let unread = log.len() - shard.count();
-    shard.absorb_next(log.entries(), max)?;
-    if max < unread {
-        return Ok(unread - max);
-    }
-    shard.renew(max - unread)
-}
-
-/// The groups that may have changed since a log had this many entries, by its only shard, which reads all of it.
-fn changed_since(
-    shard: &mut ShardState,
-    log: &JudgedLog,
-    count: usize,
-) -> Result<Vec<PgId>, AllocError>
-    requires { IsReading log.now 1 0 shard.old }
-    ensures changed { IfOk result (λ ids. AreAllChanged count log.now ids.items) }
-    ensures reading { IsReading log.now 1 0 shard.new }
-{
-    shard.absorb_next(log.entries(), log.len())?;
-    shard.changed_since(count)
 }
 
 /// Has the only shard of a log work out the group, where there is one. It is out of memory only where an incremental was read,

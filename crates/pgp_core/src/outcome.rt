@@ -1,6 +1,6 @@
 //! What a line of a script is to a log that takes its entries and answers nothing.
 
-ghost use Rattle.std.specs.Prelude.{◌≡◌, ◌≢◌, ℕ, List, IfOk, OnErr};
+ghost use Rattle.std.specs.Prelude.{◌≡◌, ℕ, List, IfOk, OnErr};
 ghost use Rattle.pgp_lines.specs.declared.command.Command.TheVariants.{Ask, Locate, Submit};
 ghost use Rattle.pgp_core.specs.Added.{IsOutcome, IsOutcomeOf, added_by, taken_from, with_added};
 ghost use Rattle.pgp_core.specs.Wants.{MayFindNone, MayLackEntry, TakesMemory};
@@ -50,19 +50,9 @@ impl Log {
         }
         match reader.read(alloc, line) {
             Ok(command) => obey(self, command),
-            Err(fault) => fault_outcome(fault),
+            Err(TextFault::Memory) => Err(AllocError),
+            Err(fault) => Ok(LineOutcome::Refused(LineRefusal::Line(fault))),
         }
-    }
-}
-
-/// What a line is to the log where reading it ended with this fault, or that there was no memory to read it.
-fn fault_outcome(fault: TextFault) -> Result<LineOutcome, AllocError>
-    ensures outcome { IfOk result (λ outcome. (fault ≢ TextFault.Memory) × (outcome ≡ LineOutcome.Refused (LineRefusal.Line fault))) }
-    ensures memory { OnErr result (fault ≡ TextFault.Memory) }
-{
-    match fault {
-        TextFault::Memory => Err(AllocError),
-        fault => Ok(LineOutcome::Refused(LineRefusal::Line(fault))),
     }
 }
 

@@ -5,11 +5,12 @@ ghost use Rattle.std.specs.Prelude.{◌≡◌, List, ℕ, [], ◌∷◌, ◌++�
 ghost use Rattle.pgp_ids.specs.declared.entry.Entry.{Entry as LogEntry};
 ghost use Rattle.pgp_lines.specs.declared.command.format.Format.{Format};
 ghost use Rattle.pgp_lines.specs.declared.command.format.Format.TheVariants.{Two};
+ghost use Rattle.pgp_lines.specs.WorkedLines.{replicated_line};
 ghost use Rattle.pgp_core.specs.declared.want.Want.{Want};
 ghost use Rattle.pgp_core.specs.declared.want.Want.TheVariants.{Line, Entry};
 ghost use Rattle.pgp_core.specs.Script.{Answers, script_text, answer, answers, log_past, logs};
 ghost use Rattle.pgp_core.specs.WrittenFor.{AreWrittenFor};
-ghost use Rattle.pgp_core.specs.Examples.{without_want, copies_line, copies_located, copies_asked};
+ghost use Rattle.pgp_core.specs.Examples.{without_want, copies_located, copies_asked};
 
 /// What is written for one line more depends on the log after the lines before it, and so does the log after that line.
 pub fn answers_depend_on_the_lines_before()
@@ -63,12 +64,12 @@ pub fn scripts_out_of_memory()
 
 /// An object is looked for in the map of the lines before.
 pub fn scripts_that_locate()
-    ensures { script_text Two (without_want 3) (codes "{\"op\":\"locate\",\"pool\":1,\"name\":\"a\"}\n" ++ (copies_line ++ codes "\n{\"op\":\"locate\",\"pool\":1,\"name\":\"a\"}\n"))
+    ensures { script_text Two (without_want 3) (codes "{\"op\":\"locate\",\"pool\":1,\"name\":\"a\"}\n" ++ (replicated_line ++ codes "\n{\"op\":\"locate\",\"pool\":1,\"name\":\"a\"}\n"))
         ≡ codes "{\"code\":42,\"refused\":\"UnknownPool\"}\n{\"count\":1,\"epoch\":1,\"ok\":\"inc\"}\n" ++ copies_located }
 {}
 
 /// A group is asked for in the log of the lines before.
 pub fn scripts_that_ask()
-    ensures { script_text Two (without_want 3) (codes "{\"op\":\"ask\",\"pg\":[1,0]}\n" ++ (copies_line ++ codes "\n{\"op\":\"ask\",\"pg\":[1,0]}\n"))
+    ensures { script_text Two (without_want 3) (codes "{\"op\":\"ask\",\"pg\":[1,0]}\n" ++ (replicated_line ++ codes "\n{\"op\":\"ask\",\"pg\":[1,0]}\n"))
         ≡ codes "{\"code\":40,\"refused\":\"UnknownGroup\"}\n{\"count\":1,\"epoch\":1,\"ok\":\"inc\"}\n" ++ copies_asked }
 {}
