@@ -1,6 +1,6 @@
 -- Fronts of one log.
 use Rattle.std.proofs.Common.{◌≡◌, ℕ, ◌+◌, ◌≤◌, List, [], ◌∷◌, ◌++◌, length, map, take, drop, true, refl, ap, sym, ◌∙◌, subst, arith, length-append, append-nil}
-use Rattle.std.proofs.Math.Seq.{take-append-add, take-append_seam}
+use Rattle.std.proofs.Math.Seq.{take-append-add}
 use Rattle.std.proofs.lemmas.List.{drop_at, take-append-drop}
 use Rattle.std.specs.Arc.{arc_value}
 use Rattle.std.specs.declared.sync.Arc.{Arc}
@@ -40,10 +40,6 @@ front_more a b k f = ap (take (length a + k)) (sym (front_rest a b f)) ∙ take-
 
 pub front_between : (a b : List Entry) (k : ℕ) → IsFrontOf a b → IsFrontOf a (take (length a + k) b)
 front_between a b k f = record { rest = take k (drop (length a) b); whole = front_more a b k f }
-
--- the front by its length
-pub front_taken : (a b : List Entry) → IsFrontOf a b → take (length a) b ≡ a
-front_taken a b f = ap (take (length a)) f.whole ∙ take-append_seam a f.rest
 
 pub take_front : (n : ℕ) (log : List Entry) → IsFrontOf (take n log) log
 take_front n log = record { rest = drop n log; whole = sym (take-append-drop n log) }

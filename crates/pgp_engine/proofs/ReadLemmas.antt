@@ -1,39 +1,19 @@
 -- What a shard has read of a front.
-use Rattle.std.proofs.Common.{◌≡◌, ℕ, ◌≤◌, ◌<◌, ◌⊎◌, Bool, true, false, inl, inr, List, [], ◌∷◌, length, drop, get_or, Option, Some, IfSome, is_some, refl, ap, ap₂, sym, ◌∙◌, subst, arith}
+use Rattle.std.proofs.Common.{◌≡◌, ℕ, ◌≤◌, ◌<◌, Bool, true, false, inl, inr, List, length, is_some, ap, ap₂, sym, ◌∙◌, subst, arith}
 use Rattle.std.proofs.lemmas.Bool.{cases_lt}
-use Rattle.std.proofs.lemmas.Bool.Decides.{nat_tests}
-use Rattle.std.specs.Prelude.{◌==◌, if◌then◌else◌}
+use Rattle.std.specs.Prelude.{if◌then◌else◌}
 use Rattle.pgp_ids.specs.declared.entry.Entry.{Entry}
 use Rattle.pgp_map.specs.Pools.{has_group}
 use Rattle.pgp_group.specs.Entries.{incs_of}
 use Rattle.pgp_log.specs.Log.{is_legal, IsFrontOf}
 use Rattle.pgp_ids.specs.declared.pg_id.PgId.{PgId}
-use Rattle.pgp_shard.specs.Shard.{AreUnmarked, HasReadSame, IsUnmarked, Shard, is_own}
+use Rattle.pgp_shard.specs.Shard.{HasReadSame, IsUnmarked, Shard, is_own}
 use Rattle.pgp_shard.proofs.ShardLemmas.{unmarked-now}
-use Rattle.pgp_feed.proofs.Fronts.{front_trans}
 use Rattle.pgp_feed.specs.declared.receipt.Receipt.{Receipt}
-use Rattle.pgp_feed.specs.Receipts.{entries_of, Holds}
-use Rattle.pgp_engine.specs.Followers.{HasTakenMore}
-use Rattle.pgp_engine.specs.Shards.{GoesOn, HadToRead, LacksThere, Reader, ReadsOn, Serves}
+use Rattle.pgp_feed.specs.Receipts.{entries_of}
+use Rattle.pgp_engine.specs.Shards.{GoesOn, HadToRead, LacksThere, Reader, Serves}
 use Rattle.pgp_engine.specs.Shown.{IsShown}
 use Rattle.pgp_engine.proofs.FrontLemmas.{front_same, front_short, receipt_legal}
-
--- what a shard has read on, by what it has taken
-pub reads_on : (log : List Entry) (s after : Shard) → HasTakenMore (λ (l : List Entry) (x : Shard). x.front ≡ l) s.front log after
-    → after.shard ∷ after.shards ∷ [] ≡ s.shard ∷ s.shards ∷ [] → ReadsOn log s after
-reads_on log s after more same = record {
-  shard_is = ap (λ (l : List ℕ). get_or l 0 0) same;
-  shards_are = ap (λ (l : List ℕ). get_or l 1 0) same;
-  front_is = subst (λ (l : List Entry). IsFrontOf s.front l) (sym more.is) more.no_fewer;
-  within = subst (λ (l : List Entry). IsFrontOf l log) (sym more.is) more.is_front;
-}
-
--- its tap has given what it has read
-pub still_seen : (before after : Shard) (target old new : Receipt) → (after ≡ before) ⊎ Holds new target → IsFrontOf after.front (entries_of target)
-    → IsFrontOf before.front (entries_of old) → IsFrontOf (entries_of old) (entries_of new) → IsFrontOf after.front (entries_of new)
-still_seen before after target old new (inl is) within seen later =
-    subst (λ (s : Shard). IsFrontOf s.front (entries_of new)) (sym is) (front_trans before.front (entries_of old) (entries_of new) seen later)
-still_seen before after target old new (inr holds) within seen later = front_trans after.front (entries_of target) (entries_of new) within holds.front
 
 -- a shard that had read less than a front of the newest one had read less than its tap has given
 pub seen_more : (view old new : Reader) (target newest last : Receipt) → view ≡ old → newest ≡ last → IsFrontOf (entries_of last) new.seen
@@ -91,16 +71,3 @@ shown q target pg before after seen holds whole own same away =
         unmarked = unmarked-now pg before after away;
       };
     }
-
-none_of : (ids : List PgId) → length ids ≡ 0 → ids ≡ []
-none_of [] none = refl
-none_of (x ∷ ids) none = absurd (omega (arith, none))
-
--- where none of the marks is left, there are none
-pub none_left : (max left : ℕ) (before after : Shard) → AreUnmarked max before after → IfSome after.marks (λ marks. left ≡ length marks)
-    → (left == 0) ≡ true → after.marks ≡ Some []
-none_left max left before after away count is =
-    let ids : List PgId = drop max away.marked in
-    let all : left ≡ length ids = subst (λ (marks : Option (List PgId)). IfSome marks (λ m. left ≡ length m)) away.left count in
-    let zero : left ≡ 0 = grind (arith, nat_tests) in
-    away.left ∙ ap (λ (l : List PgId). Some l) (none_of ids (sym all ∙ zero))

@@ -7,7 +7,7 @@ use Rattle.pgp_log.specs.Log.{IsFrontOf}
 use Rattle.pgp_feed.specs.declared.receipt.Receipt.{Receipt}
 use Rattle.pgp_feed.specs.Receipts.{entries_of, feed_of}
 use Rattle.pgp_engine.specs.declared.fault.SubmitFault.{SubmitFault}
-use Rattle.pgp_engine.specs.declared.submit_answer.SubmitAnswer.{SubmitAnswer}
+use Rattle.pgp_engine.specs.declared.answer.SubmitAnswer.{SubmitAnswer}
 use Rattle.pgp_engine.specs.declared.fault.SubmitFault.TheVariants.{Refused, Memory, NoReader}
 use Rattle.pgp_engine.specs.Fronts.{Names}
 use Rattle.pgp_engine.specs.Intakes.{MayRefuse, MayFailToSubmit, IsSubmitted}

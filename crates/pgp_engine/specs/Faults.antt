@@ -8,6 +8,8 @@ use Rattle.pgp_engine.specs.declared.fault.SubmitFault.{SubmitFault}
 use Rattle.pgp_engine.specs.declared.fault.SubmitFault.TheVariants as submit
 use Rattle.pgp_engine.specs.declared.fault.AskFault.{AskFault}
 use Rattle.pgp_engine.specs.declared.fault.AskFault.TheVariants as ask
+use Rattle.pgp_engine.specs.declared.client.fault.LocateFault.{LocateFault}
+use Rattle.pgp_engine.specs.declared.client.fault.LocateFault.TheVariants as locate
 
 abbrev pub submit_fault_number : SubmitFault → ℕ
 submit_fault_number (submit.Refused why at) = refusal_number why
@@ -19,6 +21,11 @@ ask_fault_number (ask.UnknownGroup at) = 40
 ask_fault_number ask.Memory = 41
 ask_fault_number ask.NoReader = 52
 
+abbrev pub locate_fault_number : LocateFault → ℕ
+locate_fault_number (locate.UnknownPool at) = 42
+locate_fault_number locate.Memory = 41
+locate_fault_number locate.NoReader = 52
+
 abbrev pub submit_fault_of : ReadFault → SubmitFault
 submit_fault_of read.Memory = submit.Memory
 submit_fault_of read.NoReader = submit.NoReader
@@ -26,6 +33,10 @@ submit_fault_of read.NoReader = submit.NoReader
 abbrev pub ask_fault_of : ReadFault → AskFault
 ask_fault_of read.Memory = ask.Memory
 ask_fault_of read.NoReader = ask.NoReader
+
+abbrev pub locate_fault_of : ReadFault → LocateFault
+locate_fault_of read.Memory = locate.Memory
+locate_fault_of read.NoReader = locate.NoReader
 
 -- the receipt that came with the fault
 abbrev pub refused_at : SubmitFault → Option Receipt

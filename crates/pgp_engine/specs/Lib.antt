@@ -1,5 +1,4 @@
 pub mod Clients
-pub mod LocateFaults
 pub mod Faults
 pub mod Followers
 pub mod Fronts

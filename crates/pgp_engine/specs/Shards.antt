@@ -36,13 +36,6 @@ pub record IsReader (feed : Book) (state : Shard) (stored last : Receipt) (numbe
   pub seen : IsFrontOf state.front (entries_of last)
   pub number_is : number ≡ state.shard
 
--- it is the same shard still, and has read on within this log
-pub record ReadsOn (log : List Entry) (old new : Shard) : Type 0 where
-  pub shard_is : new.shard ≡ old.shard
-  pub shards_are : new.shards ≡ old.shards
-  pub front_is : IsFrontOf old.front new.front
-  pub within : IsFrontOf new.front log
-
 -- it is the same shard still, and has read and seen no less
 pub record GoesOn (old new : Reader) : Type 0 where
   pub shard_is : new.shard ≡ old.shard

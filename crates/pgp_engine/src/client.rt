@@ -7,11 +7,9 @@ use std::marker::{Model, PhantomData};
 
 mod chart;
 mod fault;
-mod place;
 mod steps;
 
 pub use fault::LocateFault;
-pub use place::Place;
 
 /// It reads the published log by a tap of its own, waits for nobody, and places objects by what it has read. Contracts see its
 /// front, which never goes back, and how much of it the chart has taken.

@@ -13,7 +13,6 @@
 #![tactic(auto)]
 
 mod answer;
-mod brand;
 mod client;
 mod engine;
 mod entry_buffer;
@@ -23,10 +22,9 @@ mod gate;
 mod intake;
 mod naming;
 mod shard;
-mod submit_answer;
 
-pub use answer::Answer;
-pub use client::{Client, LocateFault, Place};
+pub use answer::{Answer, Place, SubmitAnswer};
+pub use client::{Client, LocateFault};
 pub use engine::Engine;
 pub use fault::{AskFault, SubmitFault};
 pub use gate::{Gate, Open};
@@ -34,4 +32,3 @@ pub use intake::Intake;
 pub use naming::Naming;
 pub use pgp_feed::{MakeFault, ReadFault};
 pub use shard::Shard;
-pub use submit_answer::SubmitAnswer;

@@ -1,11 +1,16 @@
 //! A shard of the engine: it reads the feed, and answers for some of the groups.
+ghost use Rattle.std.specs.Prelude.{◌≡◌, [], ◌∷◌};
+
 use crate::entry_buffer::EntryBuffer;
+use crate::follower::Follower;
 use crate::naming::Naming;
 use pgp_feed::{Receipt, Tap};
+use pgp_ids::Entry;
 use pgp_shard::ShardState;
+use std::alloc::AllocError;
 use std::marker::{Model, PhantomData};
+use std::sync::Arc;
 
-mod reading;
 mod steps;
 
 /// It reads one front of the log after another, and answers for its own groups by the front that it has read. Its receipt
@@ -51,4 +56,18 @@ impl<J: Naming> Model for Shard<J> {
     } };
 
     ghost invariant = { λ s. IsReader J.feed s.state s.front (last_of s.tap) s.number };
+}
+
+impl Follower for ShardState {
+    ghost has_taken = { λ log state. state.front ≡ log };
+
+    ghost numbers = { λ state. state.shard ∷ state.shards ∷ [] };
+
+    fn taken(&self) -> usize {
+        self.count()
+    }
+
+    fn take_next(&mut self, entry: &Arc<Entry>) -> Result<(), AllocError> {
+        self.absorb(entry)
+    }
 }

@@ -1,20 +1,18 @@
 //! The map by which a client places objects.
-ghost use Rattle.std.specs.Prelude.{◌≡◌, ◌≢◌, ◌<◌, [], length, None, Some, Err, OnOk, OnErr, IfOk};
+ghost use Rattle.std.specs.Prelude.{◌≡◌, ◌≢◌, [], None, Some, Err, IfOk};
 ghost use Rattle.pgp_map.specs.Pools.{pool};
 ghost use Rattle.pgp_group.specs.Entries.{incs_of};
 ghost use Rattle.pgp_log.specs.Log.{epoch_of};
 ghost use Rattle.pgp_log.specs.Locate.{place_of_object, place_with};
-ghost use Rattle.pgp_feed.specs.Receipts.{entries_of, feed_of};
-ghost use Rattle.pgp_feed.specs.Taps.{last_of};
+ghost use Rattle.pgp_feed.specs.Receipts.{entries_of};
 ghost use Rattle.pgp_feed.specs.declared.receipt.Receipt.{Receipt as AnyReceipt};
 ghost use Rattle.pgp_engine.specs.declared.client.fault.LocateFault.TheVariants.{UnknownPool, Memory, NoReader};
-ghost use Rattle.pgp_engine.specs.Clients.{IsChartOf, IsChartWithin};
+ghost use Rattle.pgp_engine.specs.Clients.{IsChartOf};
 
 use super::fault::LocateFault;
-use super::place::Place;
-use crate::entry_buffer::EntryBuffer;
+use crate::answer::Place;
 use crate::follower::Follower;
-use pgp_feed::{ReadFault, Receipt, Tap};
+use pgp_feed::Receipt;
 use pgp_ids::{Entry, ObjectName, PoolId};
 use pgp_log::{Judge, RawSets};
 use std::alloc::{AllocError, Global};
@@ -58,24 +56,6 @@ impl Chart {
             judge: Judge::start(alloc),
             sets: RawSets::new(alloc),
         }
-    }
-
-    /// Takes what it lacks of the front. Refused, it may have taken some of it.
-    #[tactic(auto, using(crate::proofs::FollowerLemmas::charted_less))]
-    pub fn follow(
-        &mut self,
-        tap: &mut Tap,
-        buffer: &mut EntryBuffer,
-        front: &Receipt,
-    ) -> Result<(), ReadFault>
-        requires feed { feed_of front.now ≡ feed_of (last_of tap.old) }
-        requires taken { IsChartWithin (entries_of front.now) self.old }
-        ensures feed { feed_of (last_of tap.new) ≡ feed_of (last_of tap.old) }
-        ensures whole { OnOk result (IsChartOf (entries_of front.now) self.new) }
-        ensures within { IsChartWithin (entries_of front.now) self.new }
-        ensures reads { OnErr result (self.old.judge.count < length (entries_of front.now)) }
-    {
-        buffer.bring(self, tap, front)
     }
 
     /// Where the object of this name lies by the map of the front.

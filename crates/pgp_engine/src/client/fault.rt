@@ -1,6 +1,6 @@
 //! Why an object isn't placed.
 ghost use Rattle.std.specs.Prelude.{◌≡◌};
-ghost use Rattle.pgp_engine.specs.LocateFaults.{locate_fault_number};
+ghost use Rattle.pgp_engine.specs.Faults.{locate_fault_number};
 
 use pgp_feed::{ReadFault, Receipt};
 use std::fmt;
@@ -35,7 +35,7 @@ impl LocateFault {
 
 impl From<ReadFault> for LocateFault {
     ghost use Rattle.std.specs.Prelude.{◌≡◌};
-    ghost use Rattle.pgp_engine.specs.LocateFaults.{locate_fault_of};
+    ghost use Rattle.pgp_engine.specs.Faults.{locate_fault_of};
 
     ghost from_gives = { λ read fault. fault ≡ locate_fault_of read };
 

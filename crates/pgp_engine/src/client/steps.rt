@@ -14,7 +14,7 @@ ghost use Rattle.pgp_engine.specs.declared.client.fault.LocateFault.TheVariants.
 use super::Client;
 use super::chart::Chart;
 use super::fault::LocateFault;
-use super::place::Place;
+use crate::answer::Place;
 use crate::entry_buffer::EntryBuffer;
 use crate::naming::Naming;
 use pgp_feed::{Receipt, Tap};
@@ -78,6 +78,7 @@ impl<J: Naming> Client<J> {
 
     /// Where the object of this name lies by the newest front, to which the client's moves on. `UnknownPool`: that front makes
     /// no such pool. `Memory` and `NoReader`: the chart lacked some of that front. Each other answer leaves it with all of it.
+    #[tactic(auto, using(crate::proofs::FollowerLemmas::charted_less))]
     pub fn locate(&mut self, id: PoolId, name: &ObjectName) -> Result<Place, LocateFault>
         ensures feed { feed_of self.new.front ≡ J.feed }
         ensures later { Holds self.new.front self.old.front }
@@ -92,7 +93,7 @@ impl<J: Naming> Client<J> {
         ensures wants { result ≡ Err Memory → HasToChart self.old self.new.front }
     {
         let at = self.newest();
-        self.chart.follow(&mut self.tap, &mut self.buffer, &at)?;
+        self.buffer.bring(&mut self.chart, &mut self.tap, &at)?;
         self.chart.locate(at, id, name)
     }
 }

@@ -1,7 +1,6 @@
 //! How an engine is made.
-ghost use Rattle.std.specs.Prelude.{◌≡◌, ◌+◌, ◌<◌, ◌≤◌, [], ◌∷◌, ◌++◌, length, map, true, None, All, IfOk, IfErr, OnOk};
+ghost use Rattle.std.specs.Prelude.{◌≡◌, ◌+◌, ◌<◌, ◌≤◌, [], ◌++◌, length, map, true, All, IfOk, IfErr, OnOk};
 ghost use Rattle.std.specs.Arc.{arc_value};
-ghost use Rattle.pgp_log.specs.Fits.{fits};
 ghost use Rattle.pgp_log.specs.Log.{is_legal};
 ghost use Rattle.pgp_feed.specs.Receipts.{entries_of, feed_of};
 ghost use Rattle.pgp_feed.specs.Feeds.{told_of};
@@ -56,17 +55,24 @@ fn make_clients<J: Naming>(alloc: Global, taps: Vec<Tap>) -> Result<Vec<Client<J
     Ok(clients)
 }
 
-/// Publishes one more owner of an entry that the log takes next.
-fn publish_shared<R: Wait>(rt: &R, feed: &mut Feed, entry: &Arc<Entry>) -> Result<(), AllocError>
-    requires { fits (entries_of (told_of feed.old)) (arc_value entry.now) ≡ None }
-    ensures feed { feed_of (told_of feed.new) ≡ feed_of (told_of feed.old) }
-    ensures log { OnOk result (entries_of (told_of feed.new) ≡ entries_of (told_of feed.old) ++ arc_value entry.now ∷ []) }
+/// This many shards, a tap for the intake, and a client for each of the other taps.
+fn parts<J: Naming>(
+    alloc: Global,
+    taps: Vec<Tap>,
+    count: usize,
+) -> Result<(Vec<LockedShard<J>>, Tap, Vec<Client<J>>), AllocError>
+    requires enough { count < length taps.items }
+    requires feed { All (λ tap. feed_of (last_of tap) ≡ J.feed) taps.items }
+    ensures shards { IfOk result (λ made. length made.0.items ≡ count) }
+    ensures tap { IfOk result (λ made. feed_of (last_of made.1) ≡ J.feed) }
+    ensures clients { IfOk result (λ made. length made.2.items + count + 1 ≡ length taps.items) }
+    ensures new { IfOk result (λ made. All IsNew made.2.items) }
 {
-    let copy = Arc::try_clone(entry)?;
-    match feed.publish(rt, copy) {
-        Ok(_) => Ok(()),
-        Err(_) => Err(AllocError),
-    }
+    let mut taps = taps;
+    let shards = make_shards(alloc, &mut taps, count)?;
+    let tap = taps.pop().unwrap();
+    let clients = make_clients(alloc, taps)?;
+    Ok((shards, tap, clients))
 }
 
 /// Publishes these entries, which the log takes next, one after the other. Refused, it has published the first of them.
@@ -76,7 +82,10 @@ fn publish_all<R: Wait>(rt: &R, feed: &mut Feed, entries: &[Arc<Entry>]) -> Resu
     ensures log { OnOk result (entries_of (told_of feed.new) ≡ entries_of (told_of feed.old) ++ map arc_value entries.now) }
 {
     for entry in entries {
-        publish_shared(rt, feed, entry)?;
+        let copy = Arc::try_clone(entry)?;
+        let Ok(_) = feed.publish(rt, copy) else {
+            return Err(AllocError);
+        };
     }
     Ok(())
 }
@@ -104,8 +113,8 @@ impl<J: Naming> Engine<J> {
         ensures new { IfOk result (λ made. All IsNew made.1.items) }
         ensures err { IfErr result (λ fault. fault ≡ Memory) }
     {
-        let (engine, taps) = Engine::with_taps(rt, alloc, feed, taps, shards, workers)?;
-        engine.with_clients(rt, alloc, taps)
+        let (engine, clients, _) = Engine::over(rt, alloc, feed, taps, shards, workers, &[])?;
+        Ok((engine, clients))
     }
 
     /// As [`Engine::make`], over these entries, which are a legal log: they are published first, and the receipt names the log
@@ -139,65 +148,17 @@ impl<J: Naming> Engine<J> {
             feed.give_up(rt);
             return Err(MakeFault::Memory);
         };
-        let told = feed.told();
-        let (engine, taps) = Engine::with_taps(rt, alloc, feed, taps, shards, workers)?;
-        let (engine, clients) = engine.with_clients(rt, alloc, taps)?;
-        Ok((engine, clients, told))
-    }
-
-    /// The engine, with a client for each of these taps.
-    fn with_clients<R: Wait>(
-        self,
-        rt: &R,
-        alloc: Global,
-        taps: Vec<Tap>,
-    ) -> Result<(Engine<J>, Vec<Client<J>>), MakeFault>
-        requires { All (λ tap. feed_of (last_of tap) ≡ J.feed) taps.items }
-        ensures same { IfOk result (λ made. made.0 ≡ self) }
-        ensures clients { IfOk result (λ made. length made.1.items ≡ length taps.items) }
-        ensures new { IfOk result (λ made. All IsNew made.1.items) }
-        ensures err { IfErr result (λ fault. fault ≡ Memory) }
-    {
-        match make_clients(alloc, taps) {
-            Ok(clients) => Ok((self, clients)),
-            Err(_) => {
-                self.give_up(rt);
-                Err(MakeFault::Memory)
-            }
-        }
-    }
-
-    /// The engine over what the feed has told, and the taps that are left.
-    fn with_taps<R: Wait>(
-        rt: &R,
-        alloc: Global,
-        feed: Feed,
-        taps: Vec<Tap>,
-        shards: usize,
-        workers: usize,
-    ) -> Result<(Engine<J>, Vec<Tap>), MakeFault>
-        requires feed { feed_of (told_of feed) ≡ J.feed }
-        requires taps { All (λ tap. feed_of (last_of tap) ≡ J.feed) taps.items }
-        requires enough { (shards + 2 ≤ length taps.items) × (length taps.items ≤ shards + 65) }
-        requires shards { (1 ≤ shards) × (shards ≤ 64) }
-        requires workers { (1 ≤ workers) × (workers ≤ 64) }
-        ensures sizes { IfOk result (λ made. made.0 ≡ record { shards = shards; workers = workers }) }
-        ensures left { IfOk result (λ made. length made.1.items + shards + 1 ≡ length taps.items) }
-        ensures feed { IfOk result (λ made. All (λ tap. feed_of (last_of tap) ≡ J.feed) made.1.items) }
-        ensures err { IfErr result (λ fault. fault ≡ Memory) }
-    {
-        let mut taps = taps;
-        let Ok(all) = make_shards(alloc, &mut taps, shards) else {
+        let Ok((shards, tap, clients)) = parts(alloc, taps, shards) else {
             feed.give_up(rt);
             return Err(MakeFault::Memory);
         };
-        let tap = taps.pop().unwrap();
+        let told = feed.told();
         let engine = Engine {
             intake: Mutex::new(Intake::start(alloc, feed, tap)),
             bell: Bell::new(),
-            shards: all,
+            shards,
             workers,
         };
-        Ok((engine, taps))
+        Ok((engine, clients, told))
     }
 }

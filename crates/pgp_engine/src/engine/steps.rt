@@ -10,20 +10,15 @@ ghost use Rattle.pgp_engine.specs.Shown.{IsShown};
 
 use super::Engine;
 use super::locks::{intake_turn, shard_turn, turn_of};
-use crate::answer::Answer;
+use crate::answer::{Answer, SubmitAnswer};
 use crate::fault::{AskFault, SubmitFault};
 use crate::naming::Naming;
 use crate::shard::Shard;
-use crate::submit_answer::SubmitAnswer;
 use pgp_feed::{ReadFault, Receipt};
 use pgp_ids::{Entry, PgId};
+use pgp_log::is_close;
 use std::mem::forget;
 use std::sync::{MutexGuard, Wait};
-
-// The entry closes the log.
-fn is_close(entry: &Entry) -> bool {
-    matches!(entry, Entry::Close)
-}
 
 impl<J: Naming> Engine<J> {
     /// Publishes the entry, if the log takes it, and answers the receipt of the log with it. `Refused`: a front that holds
@@ -51,18 +46,10 @@ impl<J: Naming> Engine<J> {
         let submitted = turn.submit_with_epoch(rt, entry);
         MutexGuard::unlock(turn);
         if submitted.is_ok() {
-            self.tell_workers(closes);
+            // Who naps needn't know that the log is longer, unless it was closed: then workers end.
+            self.bell.ring(closes);
         }
         submitted
-    }
-
-    /// The log is longer. Who naps needn't know, unless it was closed: then workers end.
-    fn tell_workers(&self, closes: bool) {
-        if closes {
-            self.bell.ring_out();
-        } else {
-            self.bell.ring();
-        }
     }
 
     /// The receipt of the whole log, as it was at some moment of the call.

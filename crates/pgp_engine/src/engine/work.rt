@@ -20,7 +20,7 @@ const ENTRIES_A_TURN: usize = 64;
 
 /// How many groups a shard works out at most in one turn of a worker. So few that whoever asks has the lock soon. Where it doesn't
 /// keep its groups yet, the first turn makes all of them first, from all that it has read.
-const GROUPS_A_TURN: usize = 4;
+const GROUPS_A_TURN: usize = 8;
 
 /// After how many rounds without an entry a lull begins.
 const ROUNDS_TO_A_LULL: usize = 8;
@@ -35,11 +35,20 @@ const SHORT_NAP: u64 = 100;
 /// shard without a gap.
 const ROUNDS_TO_WAIT: usize = 1_000;
 
-/// What a worker that has shards read on found in a turn of one, or in a round of turns.
+/// What the shards of a worker do in a round.
+#[derive(Clone, Copy)]
+enum Task {
+    /// They read on. Somebody who has one locked is waited for, if so asked.
+    Read { waits: bool },
+    /// They work out some of their groups.
+    Renew,
+}
+
+/// What a worker found in a turn of a shard that reads on or works out its groups, or in a round of such turns.
 #[derive(Drop)]
 pub(super) struct Round {
-    /// How many entries were read, of the shard that read most.
-    pub came: usize,
+    /// How many entries were read, or how many groups are left, of the shard with most.
+    pub most: usize,
     /// No shard was passed over.
     pub is_whole: bool,
     /// The receipt of the closed log, if each shard has read the Close.
@@ -52,7 +61,7 @@ impl Round {
         ensures { result.end ≡ None }
     {
         Round {
-            came: 0,
+            most: 0,
             is_whole: false,
             end: None,
         }
@@ -63,25 +72,16 @@ impl Round {
         ensures { (feed : Book) → IsRound feed other → IsRound feed result }
     {
         let Round {
-            came,
+            most,
             is_whole,
             end,
         } = self;
         Round {
-            came: came.max(other.came),
+            most: most.max(other.most),
             is_whole: is_whole && other.is_whole,
             end: if end.is_some() { other.end } else { None },
         }
     }
-}
-
-/// What a worker that has shards work out their groups found in a round of turns.
-#[derive(Drop)]
-struct Renewal {
-    /// No group was left in any shard that had a turn.
-    none_left: bool,
-    /// No shard was passed over.
-    is_whole: bool,
 }
 
 /// The receipt, if the front that it names was closed.
@@ -93,15 +93,35 @@ fn end_in<J: Naming>(front: Receipt, closed: bool) -> Option<Receipt>
     if closed { Some(front) } else { None }
 }
 
-/// Has a shard that has read something work out some of its groups. Whether none is left then. A shard that has read nothing makes
-/// none, so that it needn't keep groups while it reads its first entries.
-fn renew_read<J: Naming>(shard: &mut Shard<J>) -> Result<bool, AskFault>
-    ensures { IfErr result (λ fault. fault_at fault ≡ None) }
+/// Has a shard read on.
+fn read_on<J: Naming>(shard: &mut Shard<J>) -> Result<Round, AskFault>
+    ensures round { IfOk result (IsRound J.feed) }
+    ensures err { IfErr result (λ fault. fault_at fault ≡ None) }
 {
-    if shard.receipt().len() == 0 {
-        return Ok(true);
+    let read = shard.receipt().len();
+    let front = shard.read_some(ENTRIES_A_TURN)?;
+    Ok(Round {
+        most: front.len().saturating_sub(read),
+        is_whole: true,
+        end: end_in::<J>(front, shard.is_closed()),
+    })
+}
+
+/// Has a shard that has read something work out some of its groups. A shard that has read nothing makes none, so that it needn't
+/// keep groups while it reads its first entries.
+fn renew<J: Naming>(shard: &mut Shard<J>) -> Result<Round, AskFault>
+    ensures round { IfOk result (λ round. round.end ≡ None) }
+    ensures err { IfErr result (λ fault. fault_at fault ≡ None) }
+{
+    let mut left = 0;
+    if shard.receipt().len() > 0 {
+        left = shard.renew(GROUPS_A_TURN)?;
     }
-    shard.renew(GROUPS_A_TURN)
+    Ok(Round {
+        most: left,
+        is_whole: true,
+        end: None,
+    })
 }
 
 impl<J: Naming> Engine<J> {
@@ -133,10 +153,17 @@ impl<J: Naming> Engine<J> {
         for _ in rt.forever() {
             let rings = self.bell.listen(quiet >= ROUNDS_TO_A_LULL);
             let Round {
-                came,
+                most: came,
                 is_whole,
                 end,
-            } = self.read_on(rt, seat, gate, passing >= ROUNDS_TO_WAIT)?;
+            } = self.round(
+                rt,
+                seat,
+                gate,
+                Task::Read {
+                    waits: passing >= ROUNDS_TO_WAIT,
+                },
+            )?;
             if let Some(end) = end {
                 return Ok(Some(end));
             }
@@ -162,65 +189,6 @@ impl<J: Naming> Engine<J> {
         unreachable!()
     }
 
-    /// One turn of each shard of the seat, in which it reads on.
-    fn read_on<R: Wait, G: Gate>(
-        &self,
-        rt: &R,
-        seat: usize,
-        gate: &G,
-        waits: bool,
-    ) -> Result<Round, AskFault>
-        requires workers { seat < self.now.workers }
-        requires shards { seat < self.now.shards }
-        ensures round { IfOk result (IsRound J.feed) }
-        ensures err { IfErr result (λ fault. fault_at fault ≡ None) }
-    {
-        let shards = self.shards.len();
-        let mut round = self.read(rt, seat, gate, waits)?;
-        for shard in seat + 1..shards {
-            if shard % self.workers == seat {
-                round = round.and(self.read(rt, shard, gate, waits)?);
-            }
-        }
-        Ok(round)
-    }
-
-    /// A turn of the shard's lock, in which it reads on. Somebody who has it locked is waited for, if so asked.
-    fn read<R: Wait, G: Gate>(
-        &self,
-        rt: &R,
-        shard: usize,
-        gate: &G,
-        waits: bool,
-    ) -> Result<Round, AskFault>
-        requires { shard < self.now.shards }
-        ensures round { IfOk result (IsRound J.feed) }
-        ensures err { IfErr result (λ fault. fault_at fault ≡ None) }
-    {
-        let locked = &self.shards[shard];
-        let turn = if waits {
-            Some(locked.await_turn_to_work(rt))
-        } else {
-            locked.turn_to_work()
-        };
-        let Some(turn) = turn else {
-            return Ok(Round::passed_over());
-        };
-        let mut turn = turn;
-        gate.enter(rt, shard);
-        let before = turn.receipt();
-        let front = turn.read_some(ENTRIES_A_TURN);
-        let closed = turn.is_closed();
-        MutexGuard::unlock(turn);
-        gate.left(rt, shard);
-        let front = front?;
-        Ok(Round {
-            came: front.len().saturating_sub(before.len()),
-            is_whole: true,
-            end: end_in::<J>(front, closed),
-        })
-    }
-
     /// Has the shards of the seat work out their groups, a few of each in turn, until none is left in any or the bell is rung.
     /// Whether none was passed over in the last round.
     fn renew_all<R: Wait, G: Gate>(
@@ -230,66 +198,76 @@ impl<J: Naming> Engine<J> {
         gate: &G,
         rings: u32,
     ) -> Result<bool, AskFault>
-        requires { seat < self.now.workers }
+        requires workers { seat < self.now.workers }
+        requires shards { seat < self.now.shards }
         ensures { IfErr result (λ fault. fault_at fault ≡ None) }
     {
         for _ in rt.forever() {
-            let Renewal {
-                none_left,
+            let Round {
+                most: left,
                 is_whole,
-            } = self.renew_some(rt, seat, gate)?;
-            if none_left || self.bell.was_rung(rings) {
+                end: _,
+            } = self.round(rt, seat, gate, Task::Renew)?;
+            if left == 0 || self.bell.was_rung(rings) {
                 return Ok(is_whole);
             }
         }
         unreachable!()
     }
 
-    /// One turn of each shard of the seat, in which it works out some of its groups. It goes from the last shard to the first: whoever
-    /// asks about all groups in their order goes the other way, and so mostly asks another shard.
-    fn renew_some<R: Wait, G: Gate>(
+    /// One turn of each shard of the seat, from the last to the first: whoever asks about all groups in their order goes the other
+    /// way, and so mostly asks another shard.
+    fn round<R: Wait, G: Gate>(
         &self,
         rt: &R,
         seat: usize,
         gate: &G,
-    ) -> Result<Renewal, AskFault>
-        requires { seat < self.now.workers }
-        ensures { IfErr result (λ fault. fault_at fault ≡ None) }
+        task: Task,
+    ) -> Result<Round, AskFault>
+        requires workers { seat < self.now.workers }
+        requires shards { seat < self.now.shards }
+        ensures round { IfOk result (IsRound J.feed) }
+        ensures err { IfErr result (λ fault. fault_at fault ≡ None) }
     {
-        let mut all = Renewal {
-            none_left: true,
-            is_whole: true,
-        };
-        for shard in (seat..self.shards.len()).rev() {
+        let behind = self.shards.len() - 1 - seat;
+        let last = seat + (behind - behind % self.workers);
+        let mut round = self.turn(rt, last, gate, task)?;
+        for shard in (seat..last).rev() {
             if shard % self.workers == seat {
-                match self.renew(rt, shard, gate)? {
-                    Some(none_left) => all.none_left = all.none_left && none_left,
-                    None => all.is_whole = false,
-                }
+                round = round.and(self.turn(rt, shard, gate, task)?);
             }
         }
-        Ok(all)
+        Ok(round)
     }
 
-    /// A turn of the shard's lock, in which it works out some of its groups. Whether none was left then; `None` where the shard is
-    /// passed over.
-    fn renew<R: Wait, G: Gate>(
+    /// A turn of the shard's lock, in which it reads on, or works out some of its groups.
+    fn turn<R: Wait, G: Gate>(
         &self,
         rt: &R,
         shard: usize,
         gate: &G,
-    ) -> Result<Option<bool>, AskFault>
+        task: Task,
+    ) -> Result<Round, AskFault>
         requires { shard < self.now.shards }
+        ensures round { IfOk result (IsRound J.feed) }
         ensures err { IfErr result (λ fault. fault_at fault ≡ None) }
     {
-        let Some(turn) = self.shards[shard].turn_to_work() else {
-            return Ok(None);
+        let locked = &self.shards[shard];
+        let turn = match task {
+            Task::Read { waits: true } => Some(locked.await_turn_to_work(rt)),
+            _ => locked.turn_to_work(),
+        };
+        let Some(turn) = turn else {
+            return Ok(Round::passed_over());
         };
         let mut turn = turn;
         gate.enter(rt, shard);
-        let none_left = renew_read(&mut *turn);
+        let round = match task {
+            Task::Read { .. } => read_on(&mut *turn),
+            Task::Renew => renew(&mut *turn),
+        };
         MutexGuard::unlock(turn);
         gate.left(rt, shard);
-        Ok(Some(none_left?))
+        round
     }
 }

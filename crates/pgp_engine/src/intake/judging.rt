@@ -1,6 +1,5 @@
 //! How the judge of an intake keeps up with the log, and what it says of the next entry.
-ghost use Rattle.std.specs.Prelude.{◌≡◌, ◌≢◌, ◌<◌, ◌≤◌, ◌⊎◌, [], ◌∷◌, ◌++◌, length, None, Err, IfOk, IfErr, OnOk, OnErr, MatchResult};
-ghost use Rattle.std.specs.Arc.{arc_value};
+ghost use Rattle.std.specs.Prelude.{◌≡◌, ◌≢◌, ◌<◌, ◌≤◌, ◌⊎◌, [], ◌∷◌, ◌++◌, length, None, Err, IfErr, OnOk, OnErr, MatchResult};
 ghost use Rattle.pgp_log.specs.Fits.{fits};
 ghost use Rattle.pgp_log.specs.Judge.{IsJudgeOf, MapMayLack};
 ghost use Rattle.pgp_ids.specs.declared.refusal.Refusal.{Refusal as AnyRefusal};
@@ -98,17 +97,6 @@ pub(super) fn judge_next(
     fits(judge, &told, entry)
 }
 
-/// Two owners of one entry.
-fn two_owners(alloc: Global, entry: Entry) -> Result<(Arc<Entry>, Arc<Entry>), AllocError>
-    ensures { IfOk result (λ owners. (arc_value owners.0 ≡ entry) × (arc_value owners.1 ≡ entry)) }
-{
-    let Ok(first) = Arc::new(alloc, entry) else {
-        return Err(AllocError);
-    };
-    let second = Arc::try_clone(&first)?;
-    Ok((first, second))
-}
-
 /// Publishes an entry that fits, and has the judge take it. The judge needs no memory to be there: it may take the entry
 /// later.
 #[tactic(auto, using(crate::proofs::JudgeLemmas::follows_log))]
@@ -126,7 +114,10 @@ pub(super) fn publish<R: Wait>(
     ensures follows { Follows (entries_of (told_of feed.new)) judge.new }
     ensures judged { judge.old.count ≤ judge.new.count }
 {
-    let (entry, copy) = two_owners(alloc, entry)?;
+    let Ok(entry) = Arc::new(alloc, entry) else {
+        return Err(SubmitFault::Memory);
+    };
+    let copy = Arc::try_clone(&entry)?;
     let Ok(told) = feed.publish(rt, entry) else {
         return Err(SubmitFault::Memory);
     };

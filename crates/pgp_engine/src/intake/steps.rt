@@ -12,10 +12,10 @@ ghost use Rattle.pgp_engine.specs.declared.fault.SubmitFault.TheVariants.{Refuse
 
 use super::Intake;
 use super::judging::{catch_up, judge_next, publish};
+use crate::answer::SubmitAnswer;
 use crate::entry_buffer::EntryBuffer;
 use crate::fault::SubmitFault;
 use crate::naming::Naming;
-use crate::submit_answer::SubmitAnswer;
 use pgp_feed::{Feed, Receipt, Tap};
 use pgp_ids::Entry;
 use pgp_log::Judge;

@@ -1,10 +1,10 @@
 //! What a shard does.
-ghost use Rattle.std.specs.Prelude.{◌≡◌, ◌≢◌, ◌<◌, ◌⊎◌, ◌↔◌, [], length, is_some, true, false, None, Some, Err, IsTrue, IsSome, IfOk, IfErr, IfSome, OnOk, OnErr, MatchResult};
+ghost use Rattle.std.specs.Prelude.{◌≡◌, ◌≢◌, ◌+◌, ◌<◌, ◌≤◌, ◌⊎◌, ◌↔◌, [], length, is_some, true, false, None, Some, Err, IsTrue, IsSome, IfOk, IfErr, IfSome, OnOk, OnErr, MatchResult};
 ghost use Rattle.pgp_map.specs.Pools.{has_group};
 ghost use Rattle.pgp_group.specs.Entries.{incs_of};
 ghost use Rattle.pgp_group.specs.View.{scratch};
 ghost use Rattle.pgp_log.specs.Fits.{is_closed};
-ghost use Rattle.pgp_log.specs.Log.{epoch_of, is_legal, HasInc, IsFrontOf};
+ghost use Rattle.pgp_log.specs.Log.{epoch_of, front, is_legal, HasInc, IsFrontOf};
 ghost use Rattle.pgp_shard.specs.Shard.{AreUnmarked};
 ghost use Rattle.pgp_feed.specs.Receipts.{entries_of, feed_of};
 ghost use Rattle.pgp_feed.specs.Taps.{last_of};
@@ -16,7 +16,6 @@ ghost use Rattle.pgp_engine.specs.Shown.{HasWorkedOut, IsShown, Shows};
 ghost use Rattle.pgp_engine.specs.declared.fault.AskFault.TheVariants.{Memory, NoReader};
 
 use super::Shard;
-use super::reading::{after, read_to};
 use crate::answer::Answer;
 use crate::entry_buffer::EntryBuffer;
 use crate::fault::AskFault;
@@ -26,6 +25,19 @@ use pgp_ids::{AskRefusal, Epoch, PgId, View};
 use pgp_shard::ShardState;
 use std::alloc::Global;
 use std::marker::PhantomData;
+
+/// The front with the next `max` entries after those that were read, or with all that there are.
+fn after(newest: &Receipt, read: usize, max: usize) -> Receipt
+    requires { read ≤ length (entries_of newest.now) }
+    ensures entries { entries_of result ≡ front (read + max) (entries_of newest.now) }
+    ensures feed { feed_of result ≡ feed_of newest.now }
+{
+    if max < newest.len() - read {
+        newest.front(read + max)
+    } else {
+        newest.again()
+    }
+}
 
 impl<J: Naming> Shard<J> {
     /// The shard of this number, of this many shards, over a tap. It has read nothing, and takes no memory.
@@ -66,7 +78,7 @@ impl<J: Naming> Shard<J> {
         ensures legal { is_legal self.new.front ≡ true }
         ensures reads { OnErr result (length self.old.front < length (entries_of target.now)) }
     {
-        let read = read_to(&mut self.state, &mut self.tap, &mut self.buffer, target);
+        let read = self.buffer.bring(&mut self.state, &mut self.tap, target);
         self.front = target.front(self.state.count());
         read
     }
@@ -107,19 +119,15 @@ impl<J: Naming> Shard<J> {
         Ok(self.front.again())
     }
 
-    /// Works out anew at most this many of its groups that an entry touched, so that the next to ask about them needn't. Whether
-    /// none is left then.
-    #[tactic(auto, using(crate::proofs::ReadLemmas::none_left))]
-    pub(crate) fn renew(&mut self, max: usize) -> Result<bool, AskFault>
+    /// Works out anew at most this many of its groups that an entry touched, so that the next to ask about them needn't. How
+    /// many are left then.
+    pub(crate) fn renew(&mut self, max: usize) -> Result<usize, AskFault>
         ensures same { StaysThere self.old self.new }
         ensures marks { OnOk result (AreUnmarked max (state_of self.old) (state_of self.new)) }
-        ensures none { IfOk result (λ none_left. none_left ≡ true → self.new.marks ≡ Some []) }
-        ensures err { IfErr result (λ fault. fault_at fault ≡ None) }
         ensures memory { IfErr result (λ fault. fault ≡ Memory) }
         ensures wants { OnErr result (HasInc self.new.front) }
     {
-        let left = self.state.renew(max)?;
-        Ok(left == 0)
+        Ok(self.state.renew(max)?)
     }
 
     /// Its number.
