@@ -1,16 +1,15 @@
 //! How a feed is made.
-ghost use Rattle.std.specs.Prelude.{◌≡◌, ◌≤◌, [], ◌∷◌, Some, drop, length, vec_capacity, All, IfOk, IfErr, IfSome, IsErr, OnErr, MatchResult};
+ghost use Rattle.std.specs.Prelude.{◌≡◌, ◌≤◌, [], Some, drop, length, vec_capacity, All, IfOk, IfErr, IfSome, IsErr, OnErr, MatchResult};
 ghost use Rattle.pgp_feed.specs.Receipts.{entries_of};
 ghost use Rattle.left_right.specs.Sides.{view};
 ghost use Rattle.pgp_feed.specs.Feeds.{told_of};
 ghost use Rattle.pgp_feed.specs.Puts.{IsPut};
-ghost use Rattle.pgp_feed.specs.declared.store.Operation.TheVariants.{Skip};
 ghost use Rattle.pgp_feed.specs.Taps.{last_of};
 ghost use Rattle.pgp_feed.specs.Supplies.{IsSupplied};
 ghost use Rattle.pgp_feed.specs.declared.fault.MakeFault.TheVariants.{Memory, NoReader};
 
 use super::steps::try_publish;
-use super::warm::{Warm, skip_twice};
+use super::warm::warmed;
 use super::{Feed, LogWriter};
 use crate::fault::MakeFault;
 use crate::receipt::Receipt;
@@ -40,22 +39,6 @@ fn empty_writer(alloc: Global, told: &Receipt, readers: usize) -> Result<LogWrit
     let first = empty_store(alloc, told)?;
     let second = empty_store(alloc, told)?;
     LogWriter::new(alloc, first, second, readers)
-}
-
-// The writer with two operations in its queue that do nothing. Refused, it is ended.
-fn warmed<R: Wait>(rt: &R, writer: LogWriter) -> Result<(LogWriter, Warm), AllocError>
-    requires { drop writer.behind writer.log.items ≡ [] }
-    ensures desk { IfOk result (λ made. made.0.desk ≡ writer.desk) }
-    ensures queued { IfOk result (λ made. drop made.0.behind made.0.log.items ≡ Skip ∷ Skip ∷ []) }
-{
-    let mut writer = writer;
-    match skip_twice(&mut writer) {
-        Ok(warm) => Ok((writer, warm)),
-        Err(AllocError) => {
-            writer.take(rt);
-            Err(AllocError)
-        }
-    }
 }
 
 // The writer, once it has shown what is queued. It is tried once; refused, the writer is ended.

@@ -1,10 +1,11 @@
 //! The room in the writer's queue.
-ghost use Rattle.std.specs.Prelude.{◌≡◌, [], ◌∷◌, drop, OnOk};
+ghost use Rattle.std.specs.Prelude.{◌≡◌, [], ◌∷◌, drop, IfOk};
 ghost use Rattle.pgp_feed.specs.declared.store.Operation.TheVariants.{Skip};
 
 use super::LogWriter;
 use crate::store::Operation;
 use std::alloc::AllocError;
+use std::sync::Wait;
 
 /// A writer's queue held two operations at once. It gives no room back, so it has room from then on for as many as a publish
 /// needs: the last that was shown, and the next.
@@ -20,14 +21,19 @@ impl Warm {
     }
 }
 
-/// Queues two operations that do nothing.
-pub(super) fn skip_twice(writer: &mut LogWriter) -> Result<Warm, AllocError>
-    requires { drop writer.old.behind writer.old.log.items ≡ [] }
-    ensures desk { writer.new.desk ≡ writer.old.desk }
-    ensures queued { OnOk result (drop writer.new.behind writer.new.log.items ≡ Skip ∷ Skip ∷ []) }
+/// The writer with two operations in its queue that do nothing. Refused, it is ended.
+pub(super) fn warmed<R: Wait>(
+    rt: &R,
+    mut writer: LogWriter,
+) -> Result<(LogWriter, Warm), AllocError>
+    requires { drop writer.behind writer.log.items ≡ [] }
+    ensures desk { IfOk result (λ made. made.0.desk ≡ writer.desk) }
+    ensures queued { IfOk result (λ made. drop made.0.behind made.0.log.items ≡ Skip ∷ Skip ∷ []) }
 {
     if writer.append(Operation::Skip).is_err() || writer.append(Operation::Skip).is_err() {
+        writer.take(rt);
         return Err(AllocError);
     }
-    Ok(Warm::of(writer))
+    let warm = Warm::of(&writer);
+    Ok((writer, warm))
 }

@@ -59,10 +59,7 @@ impl Receipt {
         ensures longer { result ≡ nat_le (length (entries_of other.now)) (length (entries_of self.now)) }
         ensures holds { MatchBool result (Holds self.now other.now) (Holds other.now self.now) }
     {
-        match self.meet(other) {
-            Ordering::Less => false,
-            _ => true,
-        }
+        self.meet(other) != Ordering::Less
     }
 
     /// The longer of two receipts of one feed, which holds both; this one where neither is longer.

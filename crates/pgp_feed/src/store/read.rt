@@ -1,5 +1,5 @@
 //! How entries are read from a copy.
-ghost use Rattle.std.specs.Prelude.{◌≡◌, ◌+◌, ◌-◌, ◌<◌, ◌≤◌, [], ◌∷◌, drop, length, map, vec_len, vec_capacity, MatchResult, IfErr, OnOk};
+ghost use Rattle.std.specs.Prelude.{◌≡◌, ◌+◌, ◌-◌, ◌<◌, ◌≤◌, drop, length, map, vec_len, vec_capacity, MatchResult, IfErr};
 ghost use Rattle.std.specs.Arc.{arc_value};
 ghost use Rattle.pgp_feed.specs.Receipts.{entries_of, feed_of, Holds};
 ghost use Rattle.pgp_feed.specs.OneLog.{IsTold};
@@ -13,18 +13,6 @@ use pgp_ids::Entry;
 use std::alloc::AllocError;
 use std::sync::Arc;
 
-// Appends one more owner of the entry, into room that is there.
-fn push_shared(entry: &Arc<Entry>, into: &mut Vec<Arc<Entry>>) -> Result<(), AllocError>
-    requires room { vec_len into.old < vec_capacity into.old }
-    ensures len { OnOk result (vec_len into.new ≡ vec_len into.old + 1) }
-    ensures capacity { vec_capacity into.old ≤ vec_capacity into.new }
-    ensures pushed { MatchResult result (λ _. Appends into.old.items into.new.items (arc_value entry.now ∷ [])) (λ _. into.new.items ≡ into.old.items) }
-{
-    let copy = Arc::try_clone(entry)?;
-    into.push(copy).unwrap();
-    Ok(())
-}
-
 // Appends all entries, or none, into room that is there. It is refused where an entry can have no more owners.
 fn append_shared(from: &[Arc<Entry>], into: &mut Vec<Arc<Entry>>) -> Result<(), AllocError>
     requires room { vec_len into.old + length from.now ≤ vec_capacity into.old }
@@ -33,10 +21,11 @@ fn append_shared(from: &[Arc<Entry>], into: &mut Vec<Arc<Entry>>) -> Result<(), 
 {
     let before = into.len();
     for entry in from {
-        if push_shared(entry, into).is_err() {
+        let Ok(copy) = Arc::try_clone(entry) else {
             into.truncate(before);
             return Err(AllocError);
-        }
+        };
+        into.push(copy).unwrap();
     }
     Ok(())
 }
