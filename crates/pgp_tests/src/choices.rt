@@ -3,7 +3,6 @@
 ghost use Rattle.std.specs.Prelude.{◌<◌, length};
 
 use pgp_crush::{Chooser, List, Straw2};
-use std::test::Fail;
 
 const ITEMS: [i32; 16] = [0, 1, 2, 3, 4, 5, 6, 7, 8, 9, 10, 11, 12, 13, 14, 15];
 
@@ -34,22 +33,20 @@ fn are_alike(counts: &[u32]) -> bool {
 }
 
 #[test]
-fn list_buckets_choose_equal_items_alike(rt: HostRuntime) -> Result<(), Fail> {
+fn list_buckets_choose_equal_items_alike(rt: HostRuntime) {
     let bucket = List {
         id: -1,
         items: &ITEMS,
         weights: &WEIGHTS,
     };
     assert!(rt; are_alike(&counts(&bucket)));
-    Ok(())
 }
 
 #[test]
-fn straw2_buckets_choose_equal_items_alike(rt: HostRuntime) -> Result<(), Fail> {
+fn straw2_buckets_choose_equal_items_alike(rt: HostRuntime) {
     let bucket = Straw2 {
         items: &ITEMS,
         weights: &WEIGHTS,
     };
     assert!(rt; are_alike(&counts(&bucket)));
-    Ok(())
 }

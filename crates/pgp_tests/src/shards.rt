@@ -15,26 +15,12 @@ fn a_shard_works_out_as_many_groups_as_it_may(rt: HostRuntime) -> Result<(), Fai
     state.absorb_next(log.entries(), 1)?;
     for (most, left) in [(0, 256), (64, 192), (191, 1), (256, 0)] {
         assert!(rt; state.renew(most)? == left, "{most} of the groups");
-    }
-    Ok(())
-}
-
-#[test]
-fn a_shard_says_which_groups_may_have_changed(rt: HostRuntime) -> Result<(), Fail> {
-    let mut log = JudgedLog::new(rt.alloc());
-    let map = entry(rt.alloc(), MANY_GROUPS).ok_or("no entry")?;
-    log.fits(&map)?;
-    log.take(map)?;
-    let mut state = ShardState::start(rt.alloc(), 0, 1);
-    state.absorb_next(log.entries(), 1)?;
-    for (most, before, since) in [(0, 256, 256), (64, 256, 192), (256, 256, 0)] {
-        state.renew(most)?;
         assert!(rt;
-            state.changed_since(0)?.len() == before,
+            state.changed_since(0)?.len() == 256,
             "of none after {most}"
         );
         assert!(rt;
-            state.changed_since(1)?.len() == since,
+            state.changed_since(1)?.len() == left,
             "of one after {most}"
         );
     }

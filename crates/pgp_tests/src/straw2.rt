@@ -19,7 +19,7 @@ const CHOICES: &str = "
 ";
 
 #[test]
-fn draws_decide_as_in_ceph(rt: HostRuntime) -> Result<(), Fail> {
+fn draws_decide_as_in_ceph(rt: HostRuntime) {
     let mut rows: u32 = 0;
     for row in CHOICES.split(',') {
         let mut numbers = [0u32; 4];
@@ -38,7 +38,6 @@ fn draws_decide_as_in_ceph(rt: HostRuntime) -> Result<(), Fail> {
         rows = rows.wrapping_add(1);
     }
     assert!(rt; rows == 40);
-    Ok(())
 }
 
 /// The logarithms of all hashes, as words of 64 bits, the least significant byte first.

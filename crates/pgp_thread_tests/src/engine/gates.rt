@@ -20,11 +20,13 @@ pub fn wait_for<R: Abort + Clock>(rt: &R, counted: &AtomicUsize, least: usize) {
     panic!(rt; "what a thread waits for comes")
 }
 
-/// Holds the workers of the first shard, of both or of none, until it is opened.
+/// Holds the workers of the first shards until it is opened, or the worker after one of its turns. It counts the turns that are over.
 pub struct HoldingGate<R: Abort + Clock> {
     rt: R,
     holds: usize,
     held: AtomicUsize,
+    pub over: AtomicUsize,
+    held_after: usize,
     opened: AtomicUsize,
 }
 
@@ -35,18 +37,22 @@ impl<R: Abort + Clock + Drop> Drop for HoldingGate<R> {
             rt: _,
             holds: _,
             held: _,
+            over: _,
+            held_after: _,
             opened: _,
         } = self;
     }
 }
 
 impl<R: Abort + Clock> HoldingGate<R> {
-    /// A gate that holds the workers of so many shards.
-    pub fn new(rt: R, holds: usize) -> Self {
+    /// A gate that holds the workers of so many shards, and the worker after so many turns; after none if that is 0.
+    pub fn new(rt: R, holds: usize, held_after: usize) -> Self {
         HoldingGate {
             rt,
             holds,
             held: AtomicUsize::new(0),
+            over: AtomicUsize::new(0),
+            held_after,
             opened: AtomicUsize::new(0),
         }
     }
@@ -69,5 +75,10 @@ impl<R: Abort + Clock> Gate for HoldingGate<R> {
         }
     }
 
-    fn left<W: Wait>(&self, _rt: &W, _shard: usize) {}
+    fn left<W: Wait>(&self, _rt: &W, _shard: usize) {
+        let before = self.over.fetch_add(1, Ordering::SeqCst);
+        if before.saturating_add(1) == self.held_after {
+            wait_for(&self.rt, &self.opened, 1);
+        }
+    }
 }

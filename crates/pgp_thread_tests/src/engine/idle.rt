@@ -6,22 +6,20 @@ ghost use Rattle.pgp_thread_tests.specs.declared.engine.opened.TheConstants.{SHA
 
 use crate::count::is_count;
 use crate::engine::desk::Desk;
-use crate::engine::gates::wait_for;
+use crate::engine::gates::{HoldingGate, wait_for};
 use crate::engine::lines::{CLOSE, EMPTY_0, MAP};
 use crate::engine::opened::{Host, SHARDS, Trial, tried};
-use pgp_engine::{Gate, Naming, Open};
+use pgp_engine::{Naming, Open};
 use pgp_fixtures::MANY_GROUPS;
-use std::process::Abort;
-use std::sync::atomic::{AtomicUsize, Ordering};
-use std::sync::{MutexGuard, Wait};
+use std::sync::MutexGuard;
+use std::sync::atomic::Ordering;
 use std::thread::join;
-use std::time::Clock;
 
 /// After how many rounds without an entry a lull begins.
 const QUIET: usize = 8;
 
 /// How many groups a turn works out.
-const A_TURN: usize = 4;
+const A_TURN: usize = 8;
 
 /// How many turns one worker takes with both shards until nothing is left to do, and it sleeps. In each round each of them has one: it
 /// reads the map in one round and nothing in the others, of which the last begins the lull. Then the second shard works out its groups,
@@ -47,48 +45,6 @@ const GROUPS: usize = 128;
 /// More entries than a worker's turn reads.
 const INFOS: usize = 100;
 
-/// Counts the turns that are over. After one of them it holds the worker until it is opened; after none if that is 0.
-struct CountingGate<R: Abort + Clock> {
-    rt: R,
-    over: AtomicUsize,
-    held_after: usize,
-    opened: AtomicUsize,
-}
-
-// Written out, so that a function which lets one go has nothing to prove of what lies within.
-impl<R: Abort + Clock + Drop> Drop for CountingGate<R> {
-    fn drop(self) {
-        let CountingGate {
-            rt: _,
-            over: _,
-            held_after: _,
-            opened: _,
-        } = self;
-    }
-}
-
-impl<R: Abort + Clock> CountingGate<R> {
-    fn new(rt: R, held_after: usize) -> Self {
-        CountingGate {
-            rt,
-            over: AtomicUsize::new(0),
-            held_after,
-            opened: AtomicUsize::new(0),
-        }
-    }
-}
-
-impl<R: Abort + Clock> Gate for CountingGate<R> {
-    fn enter<W: Wait>(&self, _rt: &W, _shard: usize) {}
-
-    fn left<W: Wait>(&self, _rt: &W, _shard: usize) {
-        let before = self.over.fetch_add(1, Ordering::SeqCst);
-        if before.saturating_add(1) == self.held_after {
-            wait_for(&self.rt, &self.opened, 1);
-        }
-    }
-}
-
 /// One worker serves both shards, of which the first has worked out all of its groups before. Once it has taken so many turns,
 /// though nothing is submitted after the map, the log is closed, while the worker is held if that is asked for. No turn is left
 /// then but those in which both read the Close.
@@ -102,14 +58,14 @@ pub fn work_out<J: Naming + Send + Sync, R: Host>(
     for _ in 0..2 {
         is_count(rt, desk.read_on(rt, 0, GROUPS), 1);
     }
-    let gate = CountingGate::new(*rt, if is_held { turns } else { 0 });
+    let gate = HoldingGate::new(*rt, 0, if is_held { turns } else { 0 });
     let (end, closed) = join(
         rt,
         || desk.work(rt, 0, &gate),
         || {
             wait_for(rt, &gate.over, turns);
             let closed = desk.put(rt, CLOSE);
-            gate.opened.store(1, Ordering::SeqCst);
+            gate.open();
             closed
         },
     );
@@ -122,14 +78,14 @@ pub fn work_out<J: Naming + Send + Sync, R: Host>(
 /// It doesn't sleep then, but works out those that it passed over too, though nothing is submitted after the map.
 pub fn come_back<J: Naming + Send + Sync, R: Host>(rt: &R, desk: &Desk<J>) {
     desk.put(rt, MANY_GROUPS);
-    let gate = CountingGate::new(*rt, READ);
+    let gate = HoldingGate::new(*rt, 0, READ);
     let (end, closed) = join(
         rt,
         || desk.work(rt, 0, &gate),
         || {
             wait_for(rt, &gate.over, READ);
             let turn = desk.show(rt);
-            gate.opened.store(1, Ordering::SeqCst);
+            gate.open();
             wait_for(rt, &gate.over, READ + ALL);
             MutexGuard::unlock(turn);
             wait_for(rt, &gate.over, BACK);

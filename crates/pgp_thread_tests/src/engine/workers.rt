@@ -84,7 +84,7 @@ pub fn work_beside<J: Naming + Send + Sync, R: Host>(
         Beside::BothHeld => 2,
         Beside::EachWoken => 0,
     };
-    let gate = &HoldingGate::new(*rt, holds);
+    let gate = &HoldingGate::new(*rt, holds, 0);
     let ends = map_indices(
         rt,
         rt.alloc(),
