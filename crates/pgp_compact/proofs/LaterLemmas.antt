@@ -1,4 +1,5 @@
 -- What is kept of later reports says which earlier ones they make needless.
+use Rattle.std.proofs.Math.Bool.{and_assoc}
 use Rattle.pgp_compact.proofs.Common.{Bool, Entry, GroupLog, HashMap, Info, IsGreatestOf, List, LogEntry, None, Number, Opening, Option, PgId, Report, Some, Span, [], any-same, ap, ap₂, arith, cases_Bool, clean_in, clean_spans, epoch, false, filter, find, flat_map, get_or, group_history, group_in, group_with, has_number, incs_of, infos, infos_in, infos_of, is_clean_from, is_same_group, is_same_member, is_same_number, is_same_opening, is_same_sender, is_in_span, length, les, list_any, list_any-append, map, map_more, map_some, nat_eq, nat_le, nat_tests, not, write_number, numbers, opening_at, opening_in, option_and_then, option_map, option_map_or, reaches, refl, replaces, replaces_number, same_group, sender_of, sent, told_opening, starts_as_late, sym, take, tells_last_clean, tells_last_of, true, within, written, ℕ, ◌&&◌, ◌++◌, ◌+◌, ◌<◌, ◌∙◌, ◌∷◌, ◌≡◌, map_none}
 use Rattle.pgp_compact.proofs.IntervalLemmas.{spans-apart}
 use Rattle.pgp_compact.proofs.SpanLemmas.{any-holds, same-opening}
@@ -44,10 +45,6 @@ cleans-are log pg g clean span there held epoch (other ∷ xs) =
     let rest = cleans-are log pg g clean span there held epoch xs in
     grind (arith, cases_Bool (is_same_group other.pg pg), one, here, rest, list_any-append (opens_as pg span.first epoch) (clean_in log other) (flat_map (clean_in log) xs))
 
-both : (a b c : Bool) → (a && b && c) ≡ (a && (b && c))
-both true b c = refl
-both false b c = refl
-
 -- whether an info tells of the last clean epoch of the interval that holds that epoch
 tells-clean : (g : GroupLog) (later : List Info) (info : Info) → tells_last_clean g later info ≡ option_map_or
     (λ span. not (list_any (is_clean_from span (info.last_epoch_clean + 1)) (infos g)) && not (list_any (is_clean_from span info.last_epoch_clean) later))
@@ -55,7 +52,7 @@ tells-clean : (g : GroupLog) (later : List Info) (info : Info) → tells_last_cl
 tells-clean g later info =
     let test : Span → Bool = λ span. not (list_any (is_clean_from span (info.last_epoch_clean + 1)) (infos g)) && not (list_any (is_clean_from span info.last_epoch_clean) later) in
     any-same (tells_last_of g later info) (λ span. is_in_span info.last_epoch_clean span && test span) (clean_spans g)
-    (λ span. both (is_in_span info.last_epoch_clean span) (not (list_any (is_clean_from span (info.last_epoch_clean + 1)) (infos g))) (not (list_any (is_clean_from span info.last_epoch_clean) later)))
+    (λ span. and_assoc (is_in_span info.last_epoch_clean span) (not (list_any (is_clean_from span (info.last_epoch_clean + 1)) (infos g))) (not (list_any (is_clean_from span info.last_epoch_clean) later)))
     ∙ any-holds g.history.first info.last_epoch_clean test (clean_spans g) (spans-apart g.history (les g))
 
 pub tells-none : (g : GroupLog) (later : List Info) (info : Info) → opening_in g info.last_epoch_clean ≡ None → tells_last_clean g later info ≡ false

@@ -1,6 +1,6 @@
 //! The intervals of a group.
 
-ghost use Rattle.std.specs.Prelude.{◌≡◌, ◌≤◌, ◌&&◌, ◌||◌, [], List, not, Some, None, true, false, find, max, option_map, OnOk};
+ghost use Rattle.std.specs.Prelude.{◌≡◌, ◌≤◌, ◌&&◌, ◌||◌, [], List, not, Some, None, true, false, find, option_map, OnOk};
 ghost use Rattle.pgp_code.specs.AnyCode.{enough_of, is_by_place};
 ghost use Rattle.pgp_ids.specs.declared.entry.Entry.{Entry as AnyEntry};
 ghost use Rattle.pgp_ids.specs.declared.incremental.Incremental.{Incremental as AnyIncremental};
@@ -60,13 +60,6 @@ impl Course {
             first: Epoch::new(0),
             spans: Vec::new(alloc),
         }
-    }
-
-    /// The group is known to have begun to serve in this epoch. No map was taken yet.
-    pub(crate) fn start(&mut self, les: Epoch)
-        ensures { self.new ≡ record self.old { les = max self.old.les les } }
-    {
-        self.les = self.les.max(les);
     }
 
     /// Takes the next map, which this incremental makes. If the group lies as before, it asks for no placement and takes no
@@ -193,12 +186,10 @@ impl Course {
 fn opening(spans: &[Span], epoch: Epoch) -> Option<Epoch>
     ensures { result ≡ option_map (λ span. span.first) (find (is_in_span epoch) spans.now) }
 {
-    for span in spans {
-        if span.holds(epoch) {
-            return Some(span.first);
-        }
-    }
-    None
+    spans
+        .iter()
+        .find(|span| span.holds(epoch))
+        .map(|span| span.first)
 }
 
 /// Whether clean epochs of an interval can matter: its members could serve writes, and either no map records that they may have

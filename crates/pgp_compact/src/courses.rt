@@ -66,7 +66,7 @@ impl Courses {
         match self.find(&pg) {
             Some(place) => {
                 let course = &mut self.all[place];
-                course.start(les);
+                course.les = course.les.max(les);
                 Ok(())
             }
             None => {

@@ -32,20 +32,14 @@ impl<K: Eq + Hash + Drop> Greatest<K> {
     pub(crate) fn reaches(&self, key: &K, number: u32) -> bool
         ensures { (noted : List (K × ℕ)) → IsGreatestOf K.eq noted self.now.table → result ≡ reaches K.eq noted key.now number }
     {
-        match self.table.get(key) {
-            Some(most) => number <= *most,
-            None => false,
-        }
+        self.table.get(key).is_some_and(|most| number <= *most)
     }
 
     /// A greater number was noted for the key.
     pub(crate) fn exceeds(&self, key: &K, number: u32) -> bool
         ensures { (noted : List (K × ℕ)) → IsGreatestOf K.eq noted self.now.table → result ≡ reaches K.eq noted key.now (number + 1) }
     {
-        match self.table.get(key) {
-            Some(most) => number < *most,
-            None => false,
-        }
+        self.table.get(key).is_some_and(|most| number < *most)
     }
 
     /// Notes a number for the key.

@@ -63,13 +63,9 @@ impl Later {
             → IsPresent g map.now standing.now.first → standing.now ≡ standing_at info.now.last_epoch_clean g
             → result ≡ needs_info g (infos_in info.now.pg later) info.now }
     {
-        if self.may_be_heard(map, standing, info) {
-            true
-        } else if self.tells_last_start(standing, info) {
-            true
-        } else {
-            self.tells_last_clean(standing, info)
-        }
+        self.may_be_heard(map, standing, info)
+            || self.tells_last_start(standing, info)
+            || self.tells_last_clean(standing, info)
     }
 
     /// Whether the info counts and none that comes later replaces it.
@@ -88,13 +84,9 @@ impl Later {
             → result ≡ tells_last_start g (infos_in info.now.pg later) info.now }
     {
         let start = info.history_les;
-        if start.number() == 0 {
-            return false;
-        }
-        if start < standing.les {
-            return false;
-        }
-        !self.starts.reaches(&info.pg, start.number())
+        start.number() > 0
+            && standing.les <= start
+            && !self.starts.reaches(&info.pg, start.number())
     }
 
     /// Whether it tells of the last clean epoch in one of the group's intervals in which one can matter, and no later info of the same.

@@ -1,3 +1,4 @@
+use Rattle.std.proofs.Common.{max, rules, ◌≡◌}
 use Rattle.pgp_compact.proofs.Common.{Course, List, ap, arith, length, refl, set, slice_get_read, slice_get_within, sym, ℕ, ◌∙◌}
 use Rattle.pgp_compact.proofs.CoursesLemmas.{noted-again, noted-first}
 use Rattle.pgp_compact.proofs.courses.Courses.note_report.Goals as goal
@@ -13,7 +14,8 @@ returns-in-Some c = λ entries new says are.
     let found = sym c.find.ensures ∙ c.in-Some.is in
     let a = are.listed c.args.pg place found in
     let at = slice_get_read all (length all) place course refl (slice_get_within all place a.course a.at) c.index_mut-course.ensures.value in
-    noted-again entries new c.args.pg c.args.les says c.args.self.now _ are place course found at refl (ap (set all place) c.start.ensures)
+    let started : c.max-course.result ≡ max course.les c.args.les = search rules in
+    noted-again entries new c.args.pg c.args.les says c.args.self.now _ are place course found at refl (ap (λ (les : ℕ). set all place (record course { les = les })) started)
 
 pub returns-in_ok-insert-in-None : goal.returns-in_ok-insert-in-None
 returns-in_ok-insert-in-None c = grind (arith, noted-first, c.in_ok-insert-in-None.ensures.updates.0)

@@ -1,15 +1,17 @@
 use Rattle.pgp_compact.proofs.Common.{arith, nat_tests}
 use Rattle.pgp_compact.proofs.later.Later.needs_info.Goals as goal
-
-pub returns-then-may_be_heard : goal.returns-then-may_be_heard
-returns-then-may_be_heard c = λ log later g kept there present stands.
-    grind (arith, nat_tests, c.may_be_heard.ensures log later g kept present, c.if-may_be_heard.true)
+use Rattle.pgp_compact.proofs.later.Later.needs_info.Goals.{then-may_be_heard, else-may_be_heard}
 
 pub returns-then-tells_last_start : goal.returns-then-tells_last_start
 returns-then-tells_last_start c = λ log later g kept there present stands.
-    grind (arith, nat_tests, c.may_be_heard.ensures log later g kept present, c.tells_last_start.ensures log later g kept)
+    elim c.if-may_be_heard.branch [
+      | then-may_be_heard w ↦ grind (arith, nat_tests, c.may_be_heard.ensures log later g kept present)
+      | else-may_be_heard w ↦ grind (arith, nat_tests, c.may_be_heard.ensures log later g kept present, w.tells_last_start.ensures log later g kept)
+    ]
 
 pub returns-else-tells_last_start : goal.returns-else-tells_last_start
 returns-else-tells_last_start c = λ log later g kept there present stands.
-    let start = c.tells_last_start.ensures log later g kept in
-    grind (arith, nat_tests, c.may_be_heard.ensures log later g kept present, start, c.tells_last_clean.ensures log later g kept there)
+    elim c.if-may_be_heard.branch [
+      | then-may_be_heard w ↦ grind (arith, nat_tests, c.may_be_heard.ensures log later g kept present)
+      | else-may_be_heard w ↦ grind (arith, nat_tests, c.may_be_heard.ensures log later g kept present, w.tells_last_start.ensures log later g kept, c.tells_last_clean.ensures log later g kept there)
+    ]
