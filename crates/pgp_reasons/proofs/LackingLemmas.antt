@@ -18,32 +18,22 @@ part-enough slots part none = grind (arith, nat_tests)
 part-none : (slots : List ℕ) (part : Part) → enough_of_part slots part ≡ true → lacking_of_part slots part ≡ 0
 part-none slots part enough = grind (arith, nat_tests)
 
-none-left : (a b : ℕ) → a + b ≡ 0 → a ≡ 0
-none-left a b none = omega arith
-
-none-right : (a b : ℕ) → a + b ≡ 0 → b ≡ 0
-none-right a b none = omega arith
-
-both-none : (a b : ℕ) → a ≡ 0 → b ≡ 0 → a + b ≡ 0
-both-none a b left right = omega arith
-
 parts-enough : (slots : List ℕ) (groups : List (Option Part)) → sum_by (lacking_of_part slots) (parts_of groups) ≡ 0 → enough_parts groups slots ≡ true
 parts-enough slots [] none = refl
 parts-enough slots (None ∷ groups) none = parts-enough slots groups none
 parts-enough slots (Some part ∷ groups) none =
     let all : ℕ = sum_by (lacking_of_part slots) (parts_of groups) in
     let both : lacking_of_part slots part + all ≡ 0 = sym (sum_by-cons (lacking_of_part slots) part (parts_of groups)) ∙ none in
-    let first : enough_of_part slots part ≡ true = part-enough slots part (none-left (lacking_of_part slots part) all both) in
-    rw (first, parts-enough slots groups (none-right (lacking_of_part slots part) all both)) refl
+    let first : enough_of_part slots part ≡ true = part-enough slots part (omega (arith, both)) in
+    rw (first, parts-enough slots groups (omega (arith, both))) refl
 
 parts-none : (slots : List ℕ) (groups : List (Option Part)) → enough_parts groups slots ≡ true → sum_by (lacking_of_part slots) (parts_of groups) ≡ 0
 parts-none slots [] enough = refl
 parts-none slots (None ∷ groups) enough = parts-none slots groups enough
 parts-none slots (Some part ∷ groups) enough =
-    sum_by-cons (lacking_of_part slots) part (parts_of groups)
-    ∙ both-none (lacking_of_part slots part) (sum_by (lacking_of_part slots) (parts_of groups))
-    (part-none slots part (first_of (enough_of_part slots part) (enough_parts groups slots) enough))
-    (parts-none slots groups (rest_of (enough_of_part slots part) (enough_parts groups slots) enough))
+    let first = part-none slots part (first_of (enough_of_part slots part) (enough_parts groups slots) enough) in
+    let rest = parts-none slots groups (rest_of (enough_of_part slots part) (enough_parts groups slots) enough) in
+    sum_by-cons (lacking_of_part slots) part (parts_of groups) ∙ (λ i. first i + rest i)
 
 pub lacks_none : (code : AnyCode) (slots : List ℕ) → (lacking code slots ≡ 0) ↔ (enough_of code slots ≡ true)
 lacks_none (Replicated code) slots = (λ none. grind (arith, nat_tests), λ enough. grind (arith, nat_tests))

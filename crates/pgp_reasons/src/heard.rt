@@ -80,16 +80,10 @@ pub(crate) fn entries_in<'a>(
     ensures { (g : GroupLog) → IsPresent g map.now first → g.pg ≡ pg.now → result.now ≡ entries_in g member.now entry.now }
 {
     match entry {
-        Entry::Entries(report) => {
+        Entry::Entries(report)
             if report.pg == *pg
                 && report.member == *member
-                && is_counted(map, first, report.member, report.stamp)
-            {
-                report.log.as_slice()
-            } else {
-                &[]
-            }
-        }
+                && is_counted(map, first, report.member, report.stamp) => { report.log.as_slice() }
         _ => &[],
     }
 }
