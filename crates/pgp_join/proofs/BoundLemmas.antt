@@ -1,32 +1,17 @@
 -- What a set has into which the epochs are put in which intervals begin that matter.
-use Rattle.pgp_group.proofs.Common.{◌≡◌, ℕ, ◌+◌, ◌<◌, List, [], ◌∷◌, ◌++◌, Bool, true, false, ◌||◌, cond, nat_eq, nat_lt, Option, Some, None, is_some, refl, ap, sym, ◌∙◌, subst, Contains, flat_map, take, range_with_len, option_map, option_map_or, list_any-append, flat_map-push, Contains-nil, contains-flat_map, contains-map, flat_map-contains, last_where-found, eqb-true, true≢false, or-true, or-false, Entry, Incremental, PgId, PoolSpec, has_group, incs_of, last_where, scratch, with_sizes}
+use Rattle.pgp_group.proofs.Common.{◌≡◌, ℕ, ◌+◌, ◌<◌, List, [], ◌∷◌, ◌++◌, true, false, ◌||◌, nat_eq, nat_lt, Option, Some, None, is_some, refl, ap, sym, ◌∙◌, subst, Contains, flat_map, take, range_with_len, option_map, option_map_or, list_any-append, flat_map-push, Contains-nil, contains-flat_map, contains-map, flat_map-contains, last_where-found, eqb-true, true≢false, Entry, Incremental, PgId, PoolSpec, has_group, incs_of, last_where, scratch, with_sizes}
 use Rattle.std.specs.Cmp.{unsigned_Decides}
 use Rattle.std.specs.Set.{IsUnion, is_member}
 use Rattle.std.proofs.lemmas.Bool.{ltb-true}
-use Rattle.std.proofs.lemmas.Cmp.{nat_eq_equiv}
 use Rattle.std.proofs.lemmas.Map.Made.{is_member-Decides}
 use Rattle.pgp_ids.specs.declared.pool.PoolSizes.{PoolSizes}
 use Rattle.pgp_ids.specs.declared.view.View.{View}
-use Rattle.pgp_lists.proofs.Bools.{or_assoc, same_tests}
+use Rattle.pgp_lists.proofs.Bools.{same_tests}
 use Rattle.pgp_lists.proofs.Ranges.{range-contains}
 use Rattle.pgp_group.proofs.ViewLemmas.{scratch_there}
 use Rattle.pgp_join.specs.Bound.{begun_in, epochs_begun, first_epochs, groups_made}
 
 -- ---- putting keys into a set
-
-either : (b old : Bool) → cond b true old ≡ (old || (b || false))
-either true old = sym (or-true old)
-either false old = sym (or-false old)
-
--- one key more
-pub union-one : (k : ℕ) (old new : List ℕ) → ((q : ℕ) → is_member nat_eq new q ≡ cond (nat_eq k q) true (is_member nat_eq old q)) → IsUnion nat_eq old (k ∷ []) new
-union-one k old new has q = has q ∙ either (nat_eq k q) (is_member nat_eq old q) ∙ ap (λ b. is_member nat_eq old q || (b || false)) (nat_eq_equiv.symm k q)
-
--- some keys, and more
-pub union-then : (old xs mid ys new : List ℕ) → IsUnion nat_eq old xs mid → IsUnion nat_eq mid ys new → IsUnion nat_eq old (xs ++ ys) new
-union-then old xs mid ys new first then q =
-    then q ∙ ap (λ b. b || is_member nat_eq ys q) (first q) ∙ sym (or_assoc (is_member nat_eq old q) (is_member nat_eq xs q) (is_member nat_eq ys q))
-    ∙ ap (λ b. is_member nat_eq old q || b) (sym (list_any-append (nat_eq q) xs ys))
 
 -- the keys of one item more
 pub members-more : {X : Type 0} (f : X → List ℕ) (xs : List X) (i : ℕ) (x : X) (old new : List ℕ) → take (i + 1) xs ≡ take i xs ++ x ∷ []

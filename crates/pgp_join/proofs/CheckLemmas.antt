@@ -1,7 +1,6 @@
 -- What two views of a group, and the groups that a map has, tell of whether logs are alike.
-use Rattle.pgp_group.proofs.Common.{◌≡◌, ℕ, List, Bool, true, Option, Some, None, is_some, refl, ap, sym, ◌∙◌, subst, option_map, same_Some, true≢false, AnyCode, Entry, PgId, History, has_group, incs_of, group_history, group_with, view_of}
-use Rattle.std.proofs.Common.{Decides, zero, suc, ◌+◌, ◌<◌, ◌∷◌, ◌++◌, [], take, get_or, All, arith}
-use Rattle.std.proofs.lemmas.List.Elements.{All-append}
+use Rattle.pgp_group.proofs.Common.{◌≡◌, List, Bool, true, Option, Some, None, is_some, refl, ap, sym, ◌∙◌, subst, option_map, same_Some, true≢false, AnyCode, Entry, PgId, History, has_group, incs_of, group_history, group_with, view_of}
+use Rattle.std.proofs.Common.{Decides}
 use Rattle.pgp_ids.specs.declared.view.View.{View}
 use Rattle.pgp_group.proofs.ViewLemmas.{history_there}
 use Rattle.pgp_group.specs.View.{scratch}
@@ -37,23 +36,6 @@ group_Decides log other pg view other_view r is is' agree = (
       (subst (λ v. ViewsAgree v (view_of (group_with other pg b.0))) (sym (viewed log pg view a.0 is a.1)) agrees)),
 )
 
--- a group that a map lacks is alike
-pub lacking : (log other : List Entry) (pg : PgId) → scratch log pg ≡ None → IsGroupAlike log other pg
-lacking log other pg none h now has has' =
-    absurd (true≢false (sym (ap is_some (ap (λ m. option_map view_of (option_map (group_with log pg) m)) has)) ∙ ap is_some none))
-
-pub lacking-other : (log other : List Entry) (pg : PgId) → scratch other pg ≡ None → IsGroupAlike log other pg
-lacking-other log other pg none h now has has' =
-    absurd (true≢false (sym (ap is_some (ap (λ m. option_map view_of (option_map (group_with other pg) m)) has')) ∙ ap is_some none))
-
 -- a group that the log has is one of its map's
 pub has-group : (log : List Entry) (pg : PgId) (h : History AnyCode) → group_history (incs_of log) pg ≡ Some h → has_group (incs_of log) pg ≡ true
 has-group log pg h is = sym (history_there (incs_of log) pg) ∙ ap is_some is
-
-one-all : {A : Type 0} (P : A → Type 0) (x : A) → P x → (k : ℕ) (d : A) → k < 1 → P (get_or (x ∷ []) k d)
-one-all P x holds zero d below = holds
-one-all P x holds (suc k) d below = absurd (omega arith)
-
--- what holds of the first items of a list, and of the next one, holds of one more
-pub all-more : {A : Type 0} (P : A → Type 0) (xs : List A) (i : ℕ) (x : A) → take (i + 1) xs ≡ take i xs ++ x ∷ [] → All P (take i xs) → P x → All P (take (i + 1) xs)
-all-more P xs i x more before holds = subst (All P) (sym more) (All-append P (take i xs) (x ∷ []) before (one-all P x holds))

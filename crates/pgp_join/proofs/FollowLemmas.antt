@@ -57,14 +57,11 @@ one-more log other new go fine = record {
 }
 
 split-both : (log other : List Entry) (new : Entry) (more : List Entry) → Go ((log ++ new ∷ []) ++ more) ((other ++ new ∷ []) ++ more) → Go (log ++ new ∷ more) (other ++ new ∷ more)
-split-both log other new more go =
-    subst (λ (l : List Entry). Go l (other ++ new ∷ more)) (append_assoc log (new ∷ []) more)
-    (subst (λ (l : List Entry). Go ((log ++ new ∷ []) ++ more) l) (append_assoc other (new ∷ []) more) go)
+split-both log other new more go = rw (append_assoc log (new ∷ []) more, append_assoc other (new ∷ []) more) at go
 
 -- by the first log
 pub follows : (more log other : List Entry) → Go log other → are_checked (incs_of (log ++ more)) ≡ true → Go (log ++ more) (other ++ more)
-follows [] log other go checked =
-    subst (λ (l : List Entry). Go l (other ++ [])) (sym (append-nil log)) (subst (λ (l : List Entry). Go log l) (sym (append-nil other)) go)
+follows [] log other go checked = rw (append-nil log, append-nil other) go
 follows (new ∷ more) log other go checked =
     let whole = ap (λ (l : List Entry). are_checked (incs_of l)) (append_assoc log (new ∷ []) more) ∙ checked in
     let step = checked-with log new (front (log ++ new ∷ []) more whole) in
@@ -72,8 +69,7 @@ follows (new ∷ more) log other go checked =
 
 -- by the other one
 pub follows-other : (more log other : List Entry) → Go log other → are_checked (incs_of (other ++ more)) ≡ true → Go (log ++ more) (other ++ more)
-follows-other [] log other go checked =
-    subst (λ (l : List Entry). Go l (other ++ [])) (sym (append-nil log)) (subst (λ (l : List Entry). Go log l) (sym (append-nil other)) go)
+follows-other [] log other go checked = rw (append-nil log, append-nil other) go
 follows-other (new ∷ more) log other go checked =
     let whole = ap (λ (l : List Entry). are_checked (incs_of l)) (append_assoc other (new ∷ []) more) ∙ checked in
     let step = checked-with other new (front (other ++ new ∷ []) more whole) in
@@ -123,12 +119,10 @@ more-alike log other new are fit =
     }
 
 pub later-alike : (more log other : List Entry) → AreAlike log other → is_legal (log ++ more) ≡ true → AreAlike (log ++ more) (other ++ more)
-later-alike [] log other are legal =
-    subst (λ (l : List Entry). AreAlike l (other ++ [])) (sym (append-nil log)) (subst (λ (l : List Entry). AreAlike log l) (sym (append-nil other)) are)
+later-alike [] log other are legal = rw (append-nil log, append-nil other) are
 later-alike (new ∷ more) log other are legal =
     let split : (log ++ new ∷ []) ++ more ≡ log ++ new ∷ more = append_assoc log (new ∷ []) more in
     let split' : (other ++ new ∷ []) ++ more ≡ other ++ new ∷ more = append_assoc other (new ∷ []) more in
     let legal' : is_legal ((log ++ new ∷ []) ++ more) ≡ true = ap is_legal split ∙ legal in
     let fit : fits log new ≡ None = legal-last log new (front-legal (log ++ new ∷ []) more legal') in
-    subst (λ (l : List Entry). AreAlike l (other ++ new ∷ more)) split
-    (subst (λ (l : List Entry). AreAlike ((log ++ new ∷ []) ++ more) l) split' (later-alike more (log ++ new ∷ []) (other ++ new ∷ []) (more-alike log other new are fit) legal'))
+    rw (split, split') at (later-alike more (log ++ new ∷ []) (other ++ new ∷ []) (more-alike log other new are fit) legal')

@@ -1,6 +1,5 @@
 -- An incremental that changes the epoch alone may be passed over by the next one.
 use Rattle.pgp_group.proofs.Common.{◌≡◌, ℕ, ◌<◌, List, [], ◌∷◌, ◌++◌, true, false, Option, Some, None, nat_lt, length, refl, ap, sym, ◌∙◌, subst, arith, nat_tests, append-nil, filter_map-append, length-append, list_any-append, same_Some, AnyCode, Entry, Incremental, PgId, History, are_checked, epoch, map_fault, then_with, incs_of, infos_of, reports_of, device, group_history, group_with, les}
-use Rattle.std.specs.Prelude.{◌==◌}
 use Rattle.pgp_ids.specs.declared.pool.PoolSpec.{PoolSpec}
 use Rattle.pgp_lists.proofs.Lists.{empty-list}
 use Rattle.pgp_map.specs.FaultNumber.{refusal_of}

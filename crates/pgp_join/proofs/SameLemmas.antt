@@ -1,10 +1,9 @@
 -- The tests of two reports, or of two past intervals, decide whether these are the same.
-use Rattle.std.proofs.Common.{◌≡◌, List, Bool, true, false, ◌&&◌, Decides, nat_eq, ap, sym, refl, map, subst, Bor, ◌∙◌, [], ◌∷◌, ◌++◌, ◌||◌, Option, Some, None, filter_map, option_to_list}
+use Rattle.std.proofs.Common.{◌≡◌, List, Bool, ◌&&◌, Decides, nat_eq, ap, sym, refl, map, subst, Bor, ◌∙◌, [], ◌∷◌, ◌++◌, Option, Some, None, filter_map, option_map, option_to_list}
 use Rattle.std.proofs.Math.Bool.{beq}
-use Rattle.std.proofs.lemmas.Bool.{true≢false}
 use Rattle.std.proofs.lemmas.List.{map-append}
 use Rattle.std.proofs.lemmas.List.Elements.{filter_map-append}
-use Rattle.std.specs.List.{cons_option, list_any}
+use Rattle.std.specs.List.{cons_option}
 use Rattle.std.specs.Cmp.{booleans_Decides, unsigned_Decides}
 use Rattle.std.specs.Cmp.Derive.Mapped.{pointwise-map}
 use Rattle.std.specs.Cmp.Lexicographic.{bytes_decides, pointwise, pointwise_decides}
@@ -52,15 +51,10 @@ info_Decides a b =
       λ equal. s8.1 ((((((((ap (λ (x : Info). x.pg) equal, ap (λ (x : Info). x.member) equal), ap (λ (x : Info). x.stamp) equal), ap (λ (x : Info). x.les) equal), ap (λ (x : Info). x.history_les) equal), ap (λ (x : Info). x.last_epoch_clean) equal), ap (λ (x : Info). x.last_update) equal), ap (λ (x : Info). x.log_tail) equal), ap (λ (x : Info). x.complete) equal),
     )
 
-is_delete : Change → Bool
-is_delete Modify = false
-is_delete Delete = true
-
 change_Decides : (a b : Change) → Decides (is_same_change a b) (a ≡ b)
-unfolding is_delete
 change_Decides Modify Modify = (λ passed. refl, λ equal. refl)
-change_Decides Modify Delete = (λ passed. absurd (true≢false (sym passed)), λ equal. absurd (true≢false (sym (ap is_delete equal))))
-change_Decides Delete Modify = (λ passed. absurd (true≢false (sym passed)), λ equal. absurd (true≢false (ap is_delete equal)))
+change_Decides Modify Delete = (λ passed. cc, λ equal. cc)
+change_Decides Delete Modify = (λ passed. cc, λ equal. cc)
 change_Decides Delete Delete = (λ passed. refl, λ equal. refl)
 
 pub entry_Decides : (a b : LogEntry) → Decides (is_same_entry a b) (a ≡ b)
@@ -97,20 +91,14 @@ lists_Decide {A = A} same decides xs ys r answers is =
     subst (λ t. Decides t (map (λ x. x.now) xs ≡ map (λ x. x.now) ys)) (sym (answers ∙ (λ i. pointwise (λ x y. is x y i) xs ys) ∙ values))
     (pointwise_decides decides (map (λ x. x.now) xs) (map (λ x. x.now) ys))
 
--- a test of what values are made of
-pub any-mapped : {A B : Type 0} (test : B → Bool) (f : A → B) (xs : List A) → list_any test (map f xs) ≡ list_any (λ x. test (f x)) xs
-any-mapped test f [] = refl
-any-mapped test f (x ∷ xs) = ap (λ rest. test (f x) || rest) (any-mapped test f xs)
+one : {C D : Type 0} (value : D → C) (got : Option D) → map value (option_to_list got) ≡ cons_option (option_map value got) []
+one value None = refl
+one value (Some y) = refl
 
-alone : {C : Type 0} (got : Option C) → cons_option got [] ≡ option_to_list got
-alone None = refl
-alone (Some y) = refl
-
-one : {B C : Type 0} (pick : B → Option C) (y : B) → filter_map pick (y ∷ []) ≡ option_to_list (pick y)
-one pick y = alone (pick y)
-
--- what is picked from a list with one item more
-pub picked-more : {A B C : Type 0} (pick : B → Option C) (f : A → B) (xs : List A) (x : A) (got : Option C) → pick (f x) ≡ got
-    → filter_map pick (map f (xs ++ x ∷ [])) ≡ filter_map pick (map f xs) ++ option_to_list got
-picked-more pick f xs x got is =
-    ap (filter_map pick) (map-append f xs (x ∷ [])) ∙ filter_map-append pick (map f xs) (f x ∷ []) ∙ ap (λ l. filter_map pick (map f xs) ++ l) (one pick (f x) ∙ ap option_to_list is)
+-- what is picked from a list with one item more, where the values of a list are what was picked before
+pub picked-more : {A B C D : Type 0} (pick : B → Option C) (f : A → B) (value : D → C) (before after : List A) (x : A) (got : Option D) (now next : List D)
+    → after ≡ before ++ x ∷ [] → pick (f x) ≡ option_map value got → next ≡ now ++ option_to_list got → map value now ≡ filter_map pick (map f before)
+    → map value next ≡ filter_map pick (map f after)
+picked-more pick f value before after x got now next more is put has =
+    ap (map value) put ∙ map-append value now (option_to_list got) ∙ (λ i. has i ++ (one value got ∙ ap (λ o. cons_option o []) (sym is)) i)
+    ∙ sym (ap (λ l. filter_map pick (map f l)) more ∙ ap (filter_map pick) (map-append f before (x ∷ [])) ∙ filter_map-append pick (map f before) (f x ∷ []))

@@ -43,13 +43,10 @@ IsGroupAlike log other pg = (h now : History AnyCode) → group_history (incs_of
 abbrev pub HaveSameReports : (log other : List Entry) → Type 0
 HaveSameReports log other = (infos_of other ≡ infos_of log) × (reports_of other ≡ reports_of log)
 
--- both are closed, or open, and the other one is no longer than the first
-abbrev pub HaveSameEnds : (log other : List Entry) → Type 0
-HaveSameEnds log other = (is_closed other ≡ is_closed log) × (length other ≤ length log)
-
--- the logs agree in all but what they say of groups
+-- the logs agree in all but what they say of groups: both are closed, or open, and the other one is no longer than the first
 abbrev pub AgreeApart : (log other : List Entry) → Type 0
-AgreeApart log other = HaveSameEnds log other × AreAlikeMaps (incs_of log) (incs_of other) × HaveSameReports log other
+AgreeApart log other =
+    ((is_closed other ≡ is_closed log) × (length other ≤ length log)) × AreAlikeMaps (incs_of log) (incs_of other) × HaveSameReports log other
 
 -- The logs have the same reports in the same order and maps that are alike, and each group is alike in both.
 pub record AgreeOn (log other : List Entry) : Type 0 where

@@ -1,11 +1,11 @@
 //! Whether one log may stand for another.
 
-ghost use Rattle.std.specs.Prelude.{◌≡◌, ◌≤◌, length, map, true, IfOk, OnOk};
+ghost use Rattle.std.specs.Prelude.{◌≡◌, map, true, IfOk, OnOk};
 ghost use Rattle.std.specs.Arc.{arc_value};
 ghost use Rattle.std.specs.Bool.{Decides};
 ghost use Rattle.pgp_ids.specs.declared.pg_id.PgId.{PgId as Group};
 ghost use Rattle.pgp_map.specs.MapOf.{Says};
-ghost use Rattle.pgp_log.specs.Fits.{is_close, is_closed};
+ghost use Rattle.pgp_log.specs.Fits.{is_closed};
 ghost use Rattle.pgp_log.specs.Log.{is_legal};
 ghost use Rattle.pgp_join.specs.Alike.{AgreeApart, AreAlike, AreAlikeMaps, HaveSameReports, IsGroupAlike, ending_from};
 
@@ -36,8 +36,10 @@ fn agree_apart(alloc: Global, log: &Log, other: &Log) -> Result<bool, AllocError
     ensures agree { IfOk result (λ agree. Decides agree (AgreeApart log.now other.now)) }
     ensures legal { OnOk result ((is_legal log.now ≡ true) × (is_legal other.now ≡ true)) }
 {
-    let reports = have_same_reports(alloc, log.entries(), other.entries())?;
-    Ok(have_same_ends(log, other) && are_maps_alike(log.map(), other.map()) && reports)
+    let (entries, others) = (log.entries(), other.entries());
+    let reports = have_same_reports(alloc, entries, others)?;
+    let ends = is_closed(others) == is_closed(entries) && others.len() <= entries.len();
+    Ok(ends && are_maps_alike(log.map(), other.map()) && reports)
 }
 
 /// Whether each group is alike in both logs, where both maps have it.
@@ -55,26 +57,11 @@ fn are_groups_alike(alloc: Global, log: &mut Log, other: &mut Log) -> Result<boo
     Ok(true)
 }
 
-/// Whether both are closed, or open, and the other one is no longer than the log.
-fn have_same_ends(log: &Log, other: &Log) -> bool
-    ensures { Decides result ((is_closed other.now ≡ is_closed log.now) × (length other.now ≤ length log.now)) }
-{
-    let (entries, others) = (log.entries(), other.entries());
-    is_closed(others) == is_closed(entries) && others.len() <= entries.len()
-}
-
 /// Whether the log was closed.
 fn is_closed(entries: &[Arc<Entry>]) -> bool
     ensures { result ≡ is_closed (map arc_value entries.now) }
 {
-    entries.iter().any(|entry| is_end(entry))
-}
-
-/// The entry is a Close.
-fn is_end(entry: &Arc<Entry>) -> bool
-    ensures { result ≡ is_close (arc_value entry.now) }
-{
-    is_close(entry)
+    entries.iter().any(|entry| is_close(entry))
 }
 
 /// Whether both maps have the same epoch, and say the same.
@@ -135,13 +122,9 @@ fn are_intervals_alike(alloc: Global, view: &View, other: &View) -> Result<bool,
 fn ending_from(alloc: Global, les: Epoch, past: &[Past]) -> Result<Vec<&Past>, AllocError>
     ensures { IfOk result (λ kept. map (λ interval. interval.now) kept.items ≡ ending_from les past.now) }
 {
-    let mut kept = Vec::new(alloc);
-    for interval in past {
-        if les <= interval.last {
-            kept.push(interval)?;
-        }
-    }
-    Ok(kept)
+    past.iter()
+        .filter(|interval| les <= interval.last)
+        .collect(alloc)
 }
 
 /// Whether both lists have the same intervals.

@@ -103,15 +103,10 @@ fn devices_booted(alloc: Global, incs: &[Placed<'_>]) -> Result<HashSet<OsdId>, 
 
 /// The devices in ascending order.
 fn in_order(alloc: Global, booted: &HashSet<OsdId>) -> Result<Vec<OsdId>, AllocError> {
-    let mut devices = Vec::new(alloc);
-    for number in 0..=OsdId::MAX {
-        if let Some(osd) = OsdId::new(number)
-            && booted.contains(&osd)
-        {
-            devices.push(osd)?;
-        }
-    }
-    Ok(devices)
+    (0..=OsdId::MAX)
+        .filter_map(OsdId::new)
+        .filter(|osd| booted.contains(osd))
+        .collect(alloc)
 }
 
 /// How many pg_temp lists were given, as far as a number of the machine goes.

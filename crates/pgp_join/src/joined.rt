@@ -48,13 +48,12 @@ fn entries_of(
 ) -> Result<Vec<Arc<Entry>>, AllocError> {
     let mut joined = Vec::new(alloc);
     for piece in pieces {
-        match piece {
-            Piece::Kept(place) => {
-                if let Some(entry) = entries.get(*place) {
-                    joined.push(Arc::try_clone(entry)?)?;
-                }
-            }
-            Piece::Made(entry) => joined.push(Arc::try_clone(entry)?)?,
+        let entry = match piece {
+            Piece::Kept(place) => entries.get(*place),
+            Piece::Made(entry) => Some(entry),
+        };
+        if let Some(entry) = entry {
+            joined.push(Arc::try_clone(entry)?)?;
         }
     }
     Ok(joined)

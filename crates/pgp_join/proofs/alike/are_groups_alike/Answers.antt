@@ -1,8 +1,9 @@
-use Rattle.pgp_group.proofs.Common.{◌≡◌, ◌+◌, ◌++◌, ◌∷◌, [], true, false, All, All-contains, All-nil, refl, sym, ◌∙◌, subst, arith, true≢false, incs_of}
-use Rattle.std.proofs.Common.{rules, take}
+use Rattle.pgp_group.proofs.Common.{◌≡◌, true, false, All, All-contains, All-nil, refl, sym, ◌∙◌, subst, arith, true≢false, incs_of}
+use Rattle.std.proofs.Common.{rules}
 use Rattle.std.proofs.lemmas.Grind.{common_steps}
+use Rattle.std.proofs.lemmas.List.Elements.{All-more}
 use Rattle.pgp_join.specs.Alike.{IsGroupAlike}
-use Rattle.pgp_join.proofs.CheckLemmas.{all-more, has-group}
+use Rattle.pgp_join.proofs.CheckLemmas.{has-group}
 use Rattle.pgp_join.proofs.alike.are_groups_alike.Goals as goal
 
 pub loop-pg-init : goal.loop-pg-init
@@ -13,13 +14,13 @@ loop-pg-preserved c =
     let kept = c.loop-pg.invariant in
     let pg = c.pg-item.result in
     let passed : c.in_ok-is_group_alike.field-0 ≡ true = search rules in
-    let more : take (c.loop-pg.pg-index + 1) c.deref-pg-items.result.now ≡ take c.loop-pg.pg-index c.deref-pg-items.result.now ++ pg ∷ [] = grind (arith, common_steps) in
     let alike : IsGroupAlike c.args.log.now c.args.other.now pg =
     subst (λ l. IsGroupAlike l c.args.other.now pg) kept.0 (subst (λ o. IsGroupAlike c.loop-pg.log o pg) kept.1.0 (c.in_ok-is_group_alike.ensures.alike.0 passed)) in (
       c.is_group_alike.ensures.same ∙ kept.0,
       (
         c.is_group_alike.ensures.other_same ∙ kept.1.0,
-        all-more (IsGroupAlike c.args.log.now c.args.other.now) c.deref-pg-items.result.now c.loop-pg.pg-index pg more kept.1.1 alike,
+        All-more (IsGroupAlike c.args.log.now c.args.other.now) c.deref-pg-items.result.now c.loop-pg.pg-index pg c.loop-pg-test.true kept.1.1
+            (subst (IsGroupAlike c.args.log.now c.args.other.now) c.pg-item.is alike),
       ),
     )
 
