@@ -1,9 +1,11 @@
 -- What a group waits for, in one sentence.
-use Rattle.std.specs.Prelude.{ℕ, ◌-◌, ◌==◌, List, [], ◌∷◌, ◌++◌, not, nat_le, length, map, fold, filter, filter_map, Option, Some, None, codes, decimal, if◌then◌else◌}
+use Rattle.std.specs.Prelude.{ℕ, ◌-◌, ◌==◌, List, [], ◌∷◌, ◌++◌, not, nat_le, length, map, fold, filter, Option, Some, None, codes, decimal, if◌then◌else◌}
 use Rattle.std.specs.List.{list_any}
 use Rattle.pgp_group.specs.Heard.{has_member}
 use Rattle.pgp_ids.specs.Osds.{osd_count}
+use Rattle.pgp_ids.specs.Pool.{is_kind_by_place}
 use Rattle.pgp_ids.specs.declared.member.Member.{Member}
+use Rattle.pgp_ids.specs.declared.peer.PeerMissing.{PeerMissing}
 use Rattle.pgp_ids.specs.declared.report.Info.{Info}
 use Rattle.pgp_ids.specs.declared.verdict.Verdict.{Verdict}
 use Rattle.pgp_ids.specs.declared.verdict.Verdict.TheVariants.{NoPrimary, Down, Waiting, Incomplete, Short, NeedLog, NeedUpThru, Serve}
@@ -11,17 +13,16 @@ use Rattle.pgp_reasons.specs.declared.fates.IntervalNow.{IntervalNow}
 use Rattle.pgp_reasons.specs.declared.gap.Gap.{Gap}
 use Rattle.pgp_reasons.specs.declared.reasons.Reasons.{Reasons}
 use Rattle.pgp_group_words.specs.Text.{Text, joined, listed}
-use Rattle.pgp_group_words.specs.Lags.{laggard_of, laggard_name}
+use Rattle.pgp_group_words.specs.Lags.{lags, laggard_name}
 use Rattle.pgp_group_words.specs.Names.{epoch_name, device_names, leader_name, member_name, are, plural}
 use Rattle.pgp_group_words.specs.Spans.{interval_epochs, epochs_name, writes_name}
 use Rattle.pgp_group_words.specs.declared.explanation.Explanation.{Explanation}
-use Rattle.pgp_group_words.specs.declared.lags.Laggard.{Laggard}
 use Rattle.pgp_group_words.specs.declared.page.Naming.{Naming}
 use Rattle.pgp_group_words.specs.declared.offset.EpochOffset.{EpochOffset}
 
 -- how the members and epochs of a group are told
 abbrev pub naming_of : Explanation → EpochOffset → Naming
-naming_of explanation offset = record { by_place = explanation.by_place; offset = offset }
+naming_of explanation offset = record { by_place = is_kind_by_place explanation.pool.kind; offset = offset }
 
 -- the members that have to be heard and haven't been, in ascending order
 unfoldable pub unheard_of : Explanation → List Member
@@ -99,8 +100,8 @@ few_shards lacks = joined (
 -- either of these
 abbrev pub few : Explanation → Text
 few explanation =
-    if nat_le explanation.min_size (osd_count explanation.view.acting) then few_shards explanation.reasons.short.lacks
-    else few_members (osd_count explanation.view.acting) explanation.min_size
+    if nat_le explanation.pool.min_size (osd_count explanation.view.acting) then few_shards explanation.reasons.short.lacks
+    else few_members (osd_count explanation.view.acting) explanation.pool.min_size
 
 -- what is said of these devices, if of any: what stands before their names, and behind them
 abbrev pub osds_part : Text → List ℕ → Text → Text
@@ -165,7 +166,7 @@ on_up_thru naming primary first = joined (
     ∷ [])
 
 -- who lacks something of the best copy
-unfoldable pub behind_part : Naming → List Laggard → Text
+unfoldable pub behind_part : Naming → List PeerMissing → Text
 behind_part naming laggards =
     if length laggards == 0 then [] else joined (codes " " ∷ listed (map (laggard_name naming) laggards) ∷ codes "." ∷ [])
 
@@ -184,7 +185,7 @@ unfoldable pub on_serving : Naming → Explanation → Text
 on_serving naming explanation = joined (
     joined (codes "It serves, led by " ∷ leader_name explanation.view.acting_primary ∷ codes "." ∷ [])
     ∷ unread_part explanation.reasons.copies.lacks
-    ∷ behind_part naming (filter_map laggard_of explanation.view.missing)
+    ∷ behind_part naming (filter lags explanation.view.missing)
     ∷ [])
 
 -- the sentence on this verdict

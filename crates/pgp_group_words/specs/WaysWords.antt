@@ -3,7 +3,7 @@ use Rattle.std.specs.Prelude.{ℕ, ◌==◌, List, [], ◌∷◌, ◌++◌, Bool
 use Rattle.pgp_ids.specs.Names.{verdict_name}
 use Rattle.pgp_ids.specs.Osds.{osd_count}
 use Rattle.pgp_ids.specs.declared.verdict.Verdict.{Verdict}
-use Rattle.pgp_ids.specs.declared.verdict.Verdict.TheVariants.{NoPrimary, Down, Waiting, Incomplete, Short, NeedLog, NeedUpThru, Serve}
+use Rattle.pgp_ids.specs.declared.verdict.Verdict.TheVariants.{Down, Waiting}
 use Rattle.pgp_reasons.specs.declared.fates.IntervalNow.{IntervalNow}
 use Rattle.pgp_reasons.specs.declared.fates.Writes.{Writes}
 use Rattle.pgp_reasons.specs.declared.fates.Writes.TheVariants.{Readable, Away, Gone}
@@ -23,18 +23,12 @@ use Rattle.pgp_group_words.specs.declared.page.Naming.{Naming}
 -- ---- what a group is after a way
 
 abbrev pub has_to_wait : Verdict → Bool
-has_to_wait NoPrimary = false
-has_to_wait Down = false
 has_to_wait Waiting = true
-has_to_wait Incomplete = false
-has_to_wait Short = false
-has_to_wait NeedLog = false
-has_to_wait NeedUpThru = false
-has_to_wait Serve = false
+has_to_wait verdict = false
 
 -- its acting set has too few members, or they hold too few shards
 abbrev pub has_too_few : Explanation → Bool
-has_too_few explanation = nat_lt (osd_count explanation.view.acting) explanation.min_size || nat_lt 0 explanation.reasons.short.lacks
+has_too_few explanation = nat_lt (osd_count explanation.view.acting) explanation.pool.min_size || nat_lt 0 explanation.reasons.short.lacks
 
 -- that it has too few besides, where it has yet to hear members
 abbrev pub later_part : Explanation → Text
@@ -46,15 +40,11 @@ says_then explanation offset = sentence_of (naming_of explanation offset) explan
 
 -- ---- a way
 
--- what stands between the devices that boot and those that are declared lost
-abbrev pub and_part : (starts losses : List ℕ) → Text
-and_part starts losses = if length starts == 0 then [] else (if length losses == 0 then [] else codes " and ")
-
 -- what is done
 unfoldable pub deed_line : Outcome → Text
 deed_line outcome = line (
     osds_part (codes "start ") outcome.starts []
-    ∷ and_part outcome.starts outcome.losses
+    ∷ (if length outcome.starts == 0 then [] else (if length outcome.losses == 0 then [] else codes " and "))
     ∷ osds_part (codes "declare ") outcome.losses (codes " lost")
     ∷ [])
 
@@ -107,13 +97,10 @@ ways_heading Down = codes "\nWhat ends Down:\n"
 ways_heading verdict = codes "\nIt would be Down, too. What ends that:\n"
 
 -- that any so many of some devices are enough; where one is enough, each of them is listed
-unfoldable pub any_line : ℕ → List ℕ → Text
-any_line least osds =
-    if least == 1 then [] else line (codes "  any " ∷ decimal least ∷ codes " of " ∷ device_names osds ∷ codes " will do, such as" ∷ [])
-
-abbrev pub shape_line : Ways → Text
-shape_line (Any any) = any_line any.least any.osds
-shape_line (Listed sets) = []
+unfoldable pub any_line : Ways → Text
+any_line (Any any) =
+    if any.least == 1 then [] else line (codes "  any " ∷ decimal any.least ∷ codes " of " ∷ device_names any.osds ∷ codes " will do, such as" ∷ [])
+any_line (Listed listed) = []
 
 -- there may be ways that aren't listed
 abbrev pub may_be_more : Ways → Bool
@@ -129,7 +116,7 @@ ways_lines naming advice =
     if length advice.ways == 0 then []
     else joined (
     ways_heading advice.explanation.view.verdict
-    ∷ shape_line advice.explanation.reasons.ways
+    ∷ any_line advice.explanation.reasons.ways
     ∷ outcomes_lines naming advice.ways
     ∷ more_line advice.explanation.reasons.ways
     ∷ [])

@@ -12,7 +12,7 @@ use Rattle.pgp_group_words.specs.declared.explanation.Explanation.{Explanation}
 use Rattle.pgp_group_words.specs.declared.offset.EpochOffset.{EpochOffset}
 use Rattle.pgp_group_words.specs.declared.page.Naming.{Naming}
 
--- the group and its verdict
+-- the group, its verdict and the sentence on it
 unfoldable pub heading : Naming → Explanation → Text
 heading naming explanation = line (
     codes "group "
@@ -21,11 +21,9 @@ heading naming explanation = line (
     ∷ epoch_name naming.offset explanation.view.epoch
     ∷ codes ": "
     ∷ verdict_name explanation.view.verdict
+    ∷ codes "\n"
+    ∷ sentence_of naming explanation
     ∷ [])
-
--- the group, its verdict and the sentence on it
-unfoldable pub verdict_lines : Naming → Explanation → Text
-verdict_lines naming explanation = heading naming explanation ++ line (sentence_of naming explanation ∷ [])
 
 -- when the group last served, if it is known to have done so; epoch 0 stands for never
 unfoldable pub served_line : ℕ → Text
@@ -43,9 +41,9 @@ acting_line naming explanation = line (
     ∷ codes ", since epoch "
     ∷ epoch_name naming.offset explanation.view.first
     ∷ codes " (of size "
-    ∷ decimal explanation.size
+    ∷ decimal explanation.pool.size
     ∷ codes ", at least "
-    ∷ decimal explanation.min_size
+    ∷ decimal explanation.pool.min_size
     ∷ codes ")"
     ∷ [])
 
@@ -100,7 +98,7 @@ hearing_lines naming explanation =
 -- what is said of a group, with names of this kind
 unfoldable pub advice_lines : Naming → Advice → Text
 advice_lines naming advice = joined (
-    verdict_lines naming advice.explanation
+    heading naming advice.explanation
     ∷ place_lines naming advice.explanation
     ∷ hearing_lines naming advice.explanation
     ∷ text_of_each (codes "\n") (interval_lines naming) advice.explanation.reasons.blocking

@@ -4,7 +4,7 @@ ghost use Rattle.pgp_group_words.specs.Sentence.{naming_of, unheard_of};
 
 use super::offset::EpochOffset;
 use super::page::Naming;
-use pgp_ids::{Info, Member, PgId, Seq, View};
+use pgp_ids::{Info, Member, PgId, PoolSpec, Seq, View};
 use pgp_reasons::Reasons;
 use std::alloc::{AllocError, Global};
 
@@ -12,12 +12,7 @@ use std::alloc::{AllocError, Global};
 #[derive(Drop)]
 pub struct Explanation {
     pub pg: PgId,
-    /// Whether each member has a place of its own, so that it is named with its slot.
-    pub by_place: bool,
-    /// How many copies or shards its pool keeps.
-    pub size: u8,
-    /// With how many members it may serve.
-    pub min_size: u8,
+    pub pool: PoolSpec,
     pub view: View,
     pub reasons: Reasons,
 }
@@ -28,7 +23,7 @@ impl Explanation {
         ensures { result ≡ naming_of self.now offset }
     {
         Naming {
-            by_place: self.by_place,
+            by_place: self.pool.kind.is_by_place(),
             offset,
         }
     }

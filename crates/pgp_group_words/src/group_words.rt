@@ -2,7 +2,7 @@
 
 ghost use Rattle.std.specs.Prelude.{◌≡◌, IfOk, OnOk, string_bytes};
 ghost use Rattle.pgp_group_words.specs.Text.{Puts};
-ghost use Rattle.pgp_group_words.specs.Words.{acting_line, has_served, heading, hearing_lines, info_words, knows_of, advice_lines, list_lines, place_lines, sender_part, served_line, verdict_lines, words_of};
+ghost use Rattle.pgp_group_words.specs.Words.{acting_line, has_served, heading, hearing_lines, info_words, knows_of, advice_lines, list_lines, place_lines, sender_part, served_line, words_of};
 
 use super::advice::Advice;
 use super::explanation::Explanation;
@@ -30,7 +30,7 @@ impl Page {
         ensures { OnOk result (Puts self.old self.new (advice_lines self.old.naming advice.now)) }
     {
         let explanation = &advice.explanation;
-        self.put_verdict(explanation)?;
+        self.put_heading(explanation)?;
         self.put_place(explanation)?;
         self.put_hearing(explanation)?;
         self.put_each("\n", explanation.reasons.blocking.as_slice())?;
@@ -38,17 +38,7 @@ impl Page {
         self.put_resorts(&advice.last_resort)
     }
 
-    /// The group, its verdict and the sentence on it.
-    #[tactic(auto, unfolding(crate::specs::Words::verdict_lines))]
-    fn put_verdict(&mut self, explanation: &Explanation) -> Result<(), AllocError>
-        ensures { OnOk result (Puts self.old self.new (verdict_lines self.old.naming explanation.now)) }
-    {
-        self.put_heading(explanation)?;
-        self.put_sentence(explanation)?;
-        self.push_str("\n")
-    }
-
-    /// The group, as Ceph writes it, with its number in hexadecimal, and its verdict.
+    /// The group, as Ceph writes it, with its number in hexadecimal, its verdict, and the sentence on it.
     #[tactic(auto, unfolding(crate::specs::Words::heading))]
     fn put_heading(&mut self, explanation: &Explanation) -> Result<(), AllocError>
         ensures { OnOk result (Puts self.old self.new (heading self.old.naming explanation.now)) }
@@ -57,7 +47,9 @@ impl Page {
         let verdict = explanation.view.verdict.name();
         let pool = explanation.pg.pool.number();
         let pg = explanation.pg.pg;
-        writeln!(self.text, "group {pool}.{pg:x} at epoch {epoch}: {verdict}")
+        writeln!(self.text, "group {pool}.{pg:x} at epoch {epoch}: {verdict}")?;
+        self.put_sentence(explanation)?;
+        self.push_str("\n")
     }
 
     /// Where the group lies, since when, and when it last served.
@@ -82,8 +74,8 @@ impl Page {
             self,
             "\nacting {acting}, led by {}, since epoch {first} (of size {}, at least {})",
             Leader(explanation.view.acting_primary),
-            explanation.size,
-            explanation.min_size,
+            explanation.pool.size,
+            explanation.pool.min_size,
         )
     }
 

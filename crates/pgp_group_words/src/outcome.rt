@@ -64,6 +64,6 @@ impl Page {
 fn is_short(explanation: &Explanation) -> bool
     ensures { result ≡ has_too_few explanation.now }
 {
-    explanation.view.acting.osd_count() < usize::from(explanation.min_size)
+    explanation.view.acting.osd_count() < usize::from(explanation.pool.min_size)
         || explanation.reasons.short.lacks > 0
 }

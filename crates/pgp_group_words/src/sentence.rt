@@ -1,17 +1,17 @@
 //! What a group waits for, in one sentence.
 
-ghost use Rattle.std.specs.Prelude.{◌≡◌, IfOk, OnOk, string_bytes};
+ghost use Rattle.std.specs.Prelude.{◌≡◌, map, IfOk, OnOk, string_bytes};
 ghost use Rattle.std.specs.List.{list_any};
 ghost use Rattle.std.specs.Option.{option_copied};
 ghost use Rattle.pgp_group_words.specs.Sentence.{behind_part, fallen_part, few, few_shards, held_part, informed as informed_of, informed_beside_complete as informed_beside, log_words, naming_of, none_recent, on_down, on_incomplete, on_log, on_no_primary, on_serving, on_short, on_up_thru, on_waiting, osds_part, sentence_of, starters_part, unread_part};
 ghost use Rattle.pgp_group_words.specs.Text.{Puts};
 
 use super::explanation::Explanation;
-use super::lags::{Laggard, laggards};
+use super::lags::laggards;
 use super::names::{Leader, plural};
 use super::offset::EpochOffset;
 use super::page::Page;
-use pgp_ids::{Epoch, Info, Member, OsdId, Verdict};
+use pgp_ids::{Epoch, Info, Member, OsdId, PeerMissing, Verdict};
 use pgp_reasons::{Gap, IntervalNow, Reasons};
 use std::alloc::{AllocError, Global};
 
@@ -163,7 +163,7 @@ impl Page {
         ensures { OnOk result (Puts self.old self.new (few explanation.now)) }
     {
         let members = explanation.view.acting.osd_count();
-        let least = usize::from(explanation.min_size);
+        let least = usize::from(explanation.pool.min_size);
         if members >= least {
             return self.put_few_shards(explanation.reasons.short.lacks);
         }
@@ -258,8 +258,8 @@ impl Page {
 
     /// Who lacks something of the best copy.
     #[tactic(auto, unfolding(crate::specs::Sentence::behind_part))]
-    fn put_behind(&mut self, laggards: &[Laggard]) -> Result<(), AllocError>
-        ensures { OnOk result (Puts self.old self.new (behind_part self.old.naming laggards.now)) }
+    fn put_behind(&mut self, laggards: &[&PeerMissing]) -> Result<(), AllocError>
+        ensures { OnOk result (Puts self.old self.new (behind_part self.old.naming (map (λ peer. peer.now) laggards.now))) }
     {
         if laggards.is_empty() {
             return Ok(());

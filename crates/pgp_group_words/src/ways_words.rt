@@ -2,7 +2,7 @@
 
 ghost use Rattle.std.specs.Prelude.{◌≡◌, OnOk};
 ghost use Rattle.pgp_group_words.specs.Text.{Puts};
-ghost use Rattle.pgp_group_words.specs.WaysWords.{and_part, any_line, away_part, deed_line, may_be_more as may_be_others, more_line, outcome_lines, outcomes_lines, price_line, resort_heading, resort_lines, shape_line, then_line, unreadable_line, ways_heading, ways_lines, without_part};
+ghost use Rattle.pgp_group_words.specs.WaysWords.{any_line, away_part, deed_line, may_be_more as may_be_others, more_line, outcome_lines, outcomes_lines, price_line, resort_heading, resort_lines, then_line, unreadable_line, ways_heading, ways_lines, without_part};
 
 use super::advice::Advice;
 use super::names::plural;
@@ -23,7 +23,7 @@ impl Page {
         }
         let ways = &advice.explanation.reasons.ways;
         self.push_str(heading(advice.explanation.view.verdict))?;
-        self.put_shape(ways)?;
+        self.put_any(ways)?;
         self.put_outcomes(advice.ways.as_slice())?;
         self.put_more(ways)
     }
@@ -43,24 +43,17 @@ impl Page {
     }
 
     /// That any so many of some devices are enough, where more than one is needed.
-    fn put_shape(&mut self, ways: &Ways) -> Result<(), AllocError>
-        ensures { OnOk result (Puts self.old self.new (shape_line ways.now)) }
+    #[tactic(auto, unfolding(crate::specs::WaysWords::any_line))]
+    fn put_any(&mut self, ways: &Ways) -> Result<(), AllocError>
+        ensures { OnOk result (Puts self.old self.new (any_line ways.now)) }
     {
         match ways {
-            Ways::Any(any) => self.put_any(any.least, any.osds.as_slice()),
-            Ways::Listed(_) => Ok(()),
+            Ways::Any(any) if any.least != 1 => {
+                let names = self.list(any.osds.as_slice())?;
+                writeln!(self, "  any {} of {names} will do, such as", any.least)
+            }
+            _ => Ok(()),
         }
-    }
-
-    #[tactic(auto, unfolding(crate::specs::WaysWords::any_line))]
-    fn put_any(&mut self, least: usize, osds: &[OsdId]) -> Result<(), AllocError>
-        ensures { OnOk result (Puts self.old self.new (any_line least osds.now)) }
-    {
-        if least == 1 {
-            return Ok(());
-        }
-        let names = self.list(osds)?;
-        writeln!(self, "  any {least} of {names} will do, such as")
     }
 
     /// That there may be ways that aren't listed.
@@ -92,7 +85,9 @@ impl Page {
         ensures { OnOk result (Puts self.old self.new (deed_line outcome.now)) }
     {
         self.put_osds("start ", outcome.starts.as_slice(), "")?;
-        self.push_str(both(&outcome.starts, &outcome.losses))?;
+        if !outcome.starts.is_empty() && !outcome.losses.is_empty() {
+            self.push_str(" and ")?;
+        }
         self.put_osds("declare ", outcome.losses.as_slice(), " lost")?;
         self.push_str("\n")
     }
@@ -188,17 +183,6 @@ pub(crate) fn may_be_more(ways: &Ways) -> bool
     match ways {
         Ways::Any(_) => false,
         Ways::Listed(listed) => listed.more,
-    }
-}
-
-/// What stands between the devices that boot and those that are declared lost.
-fn both(starts: &Seq<OsdId>, losses: &Seq<OsdId>) -> &'static str
-    ensures { result.now ≡ and_part starts.now losses.now }
-{
-    if starts.is_empty() || losses.is_empty() {
-        ""
-    } else {
-        " and "
     }
 }
 

@@ -1,6 +1,6 @@
 -- What one group more adds to the counts of devices.
 use Rattle.std.proofs.Common.{◌≡◌, ℕ, ◌+◌, ◌<◌, List, [], ◌∷◌, ◌++◌, Bool, true, false, cond, nat_eq, nat_lt, slice_index, refl, ap, sym, ◌∙◌, inl, inr, arith}
-use Rattle.std.specs.List.{All, count_by, filter, list_any}
+use Rattle.std.specs.List.{All, count_by, list_any}
 use Rattle.std.proofs.lemmas.Bool.{cases_Bool, false_from_ne_true}
 use Rattle.std.proofs.lemmas.Bool.Decides.{nat_tests}
 use Rattle.std.proofs.lemmas.List.Sums.{sum_by-append}
@@ -11,7 +11,6 @@ use Rattle.pgp_lists.proofs.Members.{any-contains}
 use Rattle.pgp_lists.proofs.Pairs.{AllPairs-first, AllPairs-nil, AllPairs-rest}
 use Rattle.pgp_ids.specs.declared.verdict.Verdict.TheVariants.{Down}
 use Rattle.pgp_group.specs.GroupLog.{GroupLog}
-use Rattle.pgp_group.specs.Peering.{prior}
 use Rattle.pgp_reasons.proofs.AwaitedLemmas.{blocked_by-ascends}
 use Rattle.pgp_reasons.specs.GroupWays.{brings_back}
 use Rattle.pgp_reasons.specs.Smallest.{holds}

@@ -1,5 +1,5 @@
 -- The order of the devices for which groups wait.
-use Rattle.std.proofs.Common.{◌≡◌, ℕ, suc, ◌+◌, ◌-◌, ◌<◌, ◌≤◌, List, [], ◌∷◌, Bool, true, false, cond, map, nat_lt, refl, ap, sym, ◌∙◌, arith}
+use Rattle.std.proofs.Common.{◌≡◌, ℕ, suc, ◌+◌, ◌-◌, ◌<◌, ◌≤◌, List, ◌∷◌, Bool, true, cond, map, refl, ap, sym, ◌∙◌, arith}
 use Rattle.std.specs.Cmp.{IsTotalOrder, nat_cmp_total, on_total, then_total}
 use Rattle.std.specs.List.{Contains, filter, range_with_len}
 use Rattle.std.specs.Ordering.{flip_args, is_lt, nat_cmp, ordering_reverse}
@@ -61,10 +61,6 @@ module _ (waits : ℕ → DeviceWaits) where
   pub one-waits : (n next : ℕ) → n + 1 ≡ next → next ≤ 4096 → is_waited_for (waits n) ≡ true → from_number n ≡ with_item stands_first (waits n) (from_number next)
   unfolding put_if
   one-waits n next is below some = by-first n next is below ∙ ap (put_if n (filter is_waited_for (map waits (range_with_len next (4096 - next))))) some
-
-  pub none-waits : (n next : ℕ) → n + 1 ≡ next → next ≤ 4096 → is_waited_for (waits n) ≡ false → from_number n ≡ from_number next
-  unfolding put_if
-  none-waits n next is below none = by-first n next is below ∙ ap (put_if n (filter is_waited_for (map waits (range_with_len next (4096 - next))))) none
 
 pub all_numbers : (waits : ℕ → DeviceWaits) (n : ℕ) → n ≡ 0 → from_number waits n ≡ devices_of waits
 unfolding device_numbers

@@ -3,7 +3,6 @@ use Rattle.std.specs.Prelude.{◌≡◌, ℕ, ◌+◌, ◌-◌, ◌^◌, ◌==�
 use Rattle.pgp_ids.specs.Incremental.{no_change}
 use Rattle.pgp_ids.specs.declared.entry.Entry.{Entry}
 use Rattle.pgp_ids.specs.declared.entry.Entry.TheVariants as entry
-use Rattle.pgp_ids.specs.declared.incremental.DeviceEpoch.{DeviceEpoch}
 use Rattle.pgp_ids.specs.declared.incremental.Incremental.{Incremental}
 use Rattle.pgp_ids.specs.declared.pg_id.PgId.{PgId}
 use Rattle.pgp_ids.specs.declared.refusal.Refusal.{Refusal}
@@ -31,13 +30,9 @@ use Rattle.pgp_whole.specs.declared.choice.Choice.{Choice}
 abbrev pub next_epoch : ℕ → ℕ
 next_epoch epoch = min (epoch + 1) (2 ^ 32 - 1)
 
--- the incremental to this epoch that says which devices boot and which are lost, and leaves everything else as it is
-abbrev pub telling_inc : ℕ → (up : List ℕ) → (lost : List DeviceEpoch) → Incremental
-telling_inc epoch up lost = record (no_change (epoch - 1) epoch) { up = up; lost = lost }
-
--- the one that boots these devices and declares those lost
+-- the incremental to this epoch that boots these devices and declares those lost, and leaves everything else as it is
 abbrev pub way_inc : ℕ → (starts losses : List ℕ) → Incremental
-way_inc epoch starts losses = telling_inc epoch starts (map (lost_at_epoch epoch) losses)
+way_inc epoch starts losses = record (no_change (epoch - 1) epoch) { up = starts; lost = map (lost_at_epoch epoch) losses }
 
 -- the entry that tells of the way, behind a log
 abbrev pub way_entry : List Entry → (starts losses : List ℕ) → Entry

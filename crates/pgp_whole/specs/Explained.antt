@@ -1,20 +1,13 @@
 -- What there is to say of a group by a log.
 use Rattle.std.specs.Prelude.{◌≡◌, List, Some}
 use Rattle.pgp_ids.specs.declared.entry.Entry.{Entry}
-use Rattle.pgp_ids.specs.declared.incremental.Incremental.{Incremental}
 use Rattle.pgp_ids.specs.declared.pg_id.PgId.{PgId}
+use Rattle.pgp_map.specs.Pools.{pool}
 use Rattle.pgp_group.specs.Entries.{incs_of}
 use Rattle.pgp_group.specs.GroupLog.{GroupLog, group_in}
 use Rattle.pgp_group.specs.View.{scratch}
 use Rattle.pgp_reasons.specs.Reasons.{AreReasons}
 use Rattle.pgp_group_words.specs.declared.explanation.Explanation.{Explanation}
-use Rattle.pgp_whole.specs.Pools.{pool_facts}
-
--- what is told of the group's pool is so by the map of these incrementals
-pub record AreOfPool (incs : List Incremental) (explanation : Explanation) : Type 0 where
-  pub places_are : explanation.by_place ≡ (pool_facts incs explanation.pg.pool).by_place
-  pub size_is : explanation.size ≡ (pool_facts incs explanation.pg.pool).size
-  pub min_size_is : explanation.min_size ≡ (pool_facts incs explanation.pg.pool).min_size
 
 -- This is what there is to say of the group: its view from scratch, the reasons for that, and its pool by the last map.
 pub record IsExplainedBy (log : List Entry) (pg : PgId) (explanation : Explanation) : Type 0 where
@@ -23,4 +16,4 @@ pub record IsExplainedBy (log : List Entry) (pg : PgId) (explanation : Explanati
   pub group : GroupLog
   pub there : group_in log pg ≡ Some group
   pub reasons_are : AreReasons group explanation.reasons
-  pub pool_is : AreOfPool (incs_of log) explanation
+  pub pool_is : pool (incs_of log) pg.pool ≡ Some explanation.pool

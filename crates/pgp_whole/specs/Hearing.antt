@@ -21,10 +21,8 @@ hears_by g member info = is_same_group info.pg g.pg && (is_counted g info.member
 
 -- the same by an entry
 abbrev pub hears : GroupLog → Member → Entry → Bool
-hears g member (entry.Inc inc) = false
 hears g member (entry.Info info) = hears_by g member info
-hears g member (entry.Entries report) = false
-hears g member entry.Close = false
+hears g member other = false
 
 -- a group, and a member that sent infos to it
 abbrev pub source_of : PgId → Member → Sender

@@ -2,7 +2,6 @@ pub mod Remaining
 pub mod Entries
 pub mod Compaction
 pub mod Joining
-pub mod Pools
 pub mod Summary
 pub mod Sums
 pub mod Hearing

@@ -1,6 +1,7 @@
 -- What the groups of a log say together: how many have which verdict, and for which devices they wait.
 use Rattle.std.specs.Prelude.{ℕ, ◌-◌, ◌^◌, List, [], ◌∷◌, Bool, ◌||◌, not, min, nat_eq, nat_lt, map, filter, filter_map, flat_map, count_by, if◌then◌else◌}
 use Rattle.std.specs.List.{range_with_len}
+use Rattle.std.specs.Option.{option_map_or}
 use Rattle.std.specs.Ordering.{flip_args, is_lt, nat_cmp, on, then_cmp}
 use Rattle.std.specs.declared.cmp.Ordering.{Ordering}
 use Rattle.std.specs.declared.cmp.Reverse.{Reverse}
@@ -11,6 +12,7 @@ use Rattle.pgp_ids.specs.declared.verdict.Verdict.{Verdict}
 use Rattle.pgp_ids.specs.declared.verdict.Verdict.TheVariants.{Down, Waiting}
 use Rattle.pgp_lists.specs.Ordered.{ascending}
 use Rattle.pgp_map.specs.Map.{epoch}
+use Rattle.pgp_map.specs.Pools.{pool}
 use Rattle.pgp_group.specs.Entries.{incs_of}
 use Rattle.pgp_group.specs.GroupLog.{GroupLog, group_in}
 use Rattle.pgp_group.specs.Heard.{has_member, heard}
@@ -18,7 +20,6 @@ use Rattle.pgp_group.specs.Peering.{prior}
 use Rattle.pgp_group.specs.Verdict.{verdict_place, verdict}
 use Rattle.pgp_reasons.specs.GroupWays.{brings_back}
 use Rattle.pgp_reasons.specs.Smallest.{holds}
-use Rattle.pgp_whole.specs.Pools.{pool_facts}
 use Rattle.pgp_whole.specs.declared.devices.DeviceWaits.{DeviceWaits}
 use Rattle.pgp_whole.specs.declared.summary.Summary.{Summary}
 
@@ -30,11 +31,15 @@ counted n = min n (2 ^ 64 - 1)
 
 -- the group of this number in a pool
 abbrev pub group_of : ℕ → ℕ → PgId
-group_of pool pg = record { pool = pool; pg = pg }
+group_of id pg = record { pool = id; pg = pg }
 
--- the groups of a pool by the map of these incrementals
+-- how many groups a pool has by the map of these incrementals
+abbrev pub group_count : List Incremental → ℕ → ℕ
+group_count incs id = option_map_or (λ made. made.pg_num) (pool incs id) 0
+
+-- its groups
 abbrev pub groups_of_pool : List Incremental → ℕ → List PgId
-groups_of_pool incs id = map (group_of id) (range_with_len 0 (pool_facts incs id).groups)
+groups_of_pool incs id = map (group_of id) (range_with_len 0 (group_count incs id))
 
 -- the numbers of all pools that there may be
 unfoldable pub pool_numbers : List ℕ

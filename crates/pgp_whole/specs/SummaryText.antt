@@ -33,10 +33,6 @@ verdict_line verdicts verdict =
     if verdict_count verdicts verdict == 0 then []
     else line (codes "  " ∷ verdict_name verdict ∷ codes " " ∷ decimal (verdict_count verdicts verdict) ∷ [])
 
--- a line for each verdict, in the order in which their causes are looked at
-unfoldable pub tally_lines : List Verdict → Text
-tally_lines verdicts = flat_map (verdict_line verdicts) in_order
-
 -- what a device does to this many groups, where there are some
 unfoldable pub groups_part : Text → ℕ → Text
 groups_part does count =
@@ -66,9 +62,13 @@ gap_before devices = if length devices == 0 then [] else codes "\n"
 unfoldable pub device_lines : List DeviceWaits → Text
 device_lines devices = gap_before devices ++ flat_map device_line devices
 
--- what is said of a summary in words
+-- what is said of a summary in words, of the verdicts in the order in which their causes are looked at
 unfoldable pub summary_words : Summary → EpochOffset → Text
-summary_words summary offset = joined (total_line summary offset ∷ tally_lines summary.verdicts ∷ device_lines summary.devices ∷ [])
+summary_words summary offset = joined (
+    total_line summary offset
+    ∷ flat_map (verdict_line summary.verdicts) in_order
+    ∷ device_lines summary.devices
+    ∷ [])
 
 -- ---- as JSON
 

@@ -3,7 +3,7 @@
 ghost use Rattle.std.specs.Prelude.{◌≡◌, Some, None, map as mapped, IfOk, IfSome, IfNone};
 ghost use Rattle.pgp_reasons.specs.GroupWays.{lost_at_epoch};
 ghost use Rattle.pgp_group.specs.View.{scratch};
-ghost use Rattle.pgp_whole.specs.Advice.{AreOutcomes, AreResorts, IsAdvice, IsAfterWay, IsOutcomeOfChoice, IsToldBy, choice_of, telling_inc, next_epoch, way_inc};
+ghost use Rattle.pgp_whole.specs.Advice.{AreOutcomes, AreResorts, IsAdvice, IsAfterWay, IsOutcomeOfChoice, IsToldBy, choice_of, next_epoch, way_inc};
 
 use super::choice::{Choice, copy, resorts, starts, told_sets};
 use super::groups::explanation_of;
@@ -158,24 +158,10 @@ fn incremental(
 ) -> Result<Incremental, AllocError>
     ensures { IfOk result (λ inc. inc ≡ way_inc epoch starts.now losses.now) }
 {
-    let up = copy(alloc, starts)?;
-    let lost = lost_at(alloc, epoch, losses)?;
-    Ok(inc_of(alloc, epoch, up, lost))
-}
-
-/// The incremental to this epoch of these parts alone.
-fn inc_of(
-    alloc: Global,
-    epoch: Epoch,
-    booted: Seq<OsdId>,
-    given_up: Seq<DeviceEpoch>,
-) -> Incremental
-    ensures { result ≡ telling_inc epoch booted given_up }
-{
     let mut inc = Incremental::empty(alloc, epoch.before(), epoch);
-    inc.up = booted;
-    inc.lost = given_up;
-    inc
+    inc.up = copy(alloc, starts)?;
+    inc.lost = lost_at(alloc, epoch, losses)?;
+    Ok(inc)
 }
 
 /// The devices, each lost at this epoch.

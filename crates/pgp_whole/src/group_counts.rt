@@ -1,6 +1,6 @@
 //! For each device a number of groups.
 
-ghost use Rattle.std.specs.Prelude.{◌≡◌, ℕ, ◌+◌, ◌<◌, List, [], length, slice_index, nat_eq, nat_lt, IfOk, if◌then◌else◌};
+ghost use Rattle.std.specs.Prelude.{◌≡◌, ℕ, ◌+◌, ◌<◌, List, length, slice_index, nat_eq, nat_lt, IfOk, if◌then◌else◌};
 ghost use Rattle.pgp_lists.specs.Ordered.{IsAscending};
 ghost use Rattle.pgp_reasons.specs.Smallest.{holds};
 ghost use Rattle.pgp_whole.specs.Summary.{counted};

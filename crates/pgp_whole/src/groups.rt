@@ -3,7 +3,6 @@ ghost use Rattle.std.specs.Prelude.{◌≡◌, None, IfOk, IfSome, IfNone};
 ghost use Rattle.pgp_group.specs.View.{scratch};
 ghost use Rattle.pgp_whole.specs.Explained.{IsExplainedBy};
 
-use super::pools::PoolFacts;
 use pgp_core::Log;
 use pgp_group_words::Explanation;
 use pgp_ids::PgId;
@@ -20,16 +19,16 @@ pub fn explanation_of(
     ensures none { IfOk result (λ found. IfNone found (scratch log.old pg.now ≡ None)) }
     ensures same { log.new ≡ log.old }
 {
+    let Some(pool) = log.map().pool(pg.pool) else {
+        return Ok(None);
+    };
     let Some(view) = log.ask(*pg)? else {
         return Ok(None);
     };
     let reasons = reasons_of(alloc, log.map(), log.entries(), *pg, &view)?;
-    let pool = PoolFacts::of(log.map(), pg.pool);
     Ok(Some(Explanation {
         pg: *pg,
-        by_place: pool.by_place,
-        size: pool.size,
-        min_size: pool.min_size,
+        pool,
         view,
         reasons,
     }))

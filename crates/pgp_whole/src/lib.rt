@@ -23,7 +23,6 @@ mod group_sums;
 mod groups;
 mod join;
 pub mod laws;
-mod pools;
 mod read;
 mod stamps;
 mod subcommand;

@@ -1,8 +1,6 @@
 //! The subcommand, over any reader and writers.
 ghost use Rattle.std.specs.Prelude.{◌≡◌, ◌≢◌, ◌⊎◌, true, Some, IfOk, IfErr, OnOk, string_bytes};
-ghost use Rattle.std.specs.Io.KnownBytes.{Appends};
 ghost use Rattle.pgp_ids.specs.declared.pg_id.PgId.{PgId as Group};
-ghost use Rattle.pgp_core.specs.Output.{FrontWent};
 ghost use Rattle.pgp_core.specs.Run.{script_bounds};
 ghost use Rattle.pgp_core.specs.Whole.{GivesTooMuch};
 ghost use Rattle.pgp_whole.specs.Explanation.{HasNoGroup, IsExplainedInPart, IsExplained, IsGroupText, SaysAsked, StopsText, question};
@@ -57,17 +55,6 @@ pub fn explain<R: Source, W: Sink, E: Write>(
     let mut log = read_log(alloc, format, reader, errors)?;
     let offset = EpochOffset(epoch_offset);
     let text = asked_text(alloc, &mut log, pg, losses, json, offset)?;
-    write_text(writer, text.as_str())
-}
-
-/// Writes all of the text, and has the writer pass it on.
-fn write_text<W: Sink>(writer: &mut W, text: &str) -> Result<(), ExplainFault>
-    ensures ok { OnOk result (Appends (W.state writer.old).contents (W.state writer.new).contents text.now) }
-    ensures kept { OnOk result ((W.state writer.new).failed ≡ (W.state writer.old).failed) }
-    ensures passed_on { OnOk result ((W.state writer.new).passed_on ≡ true) }
-    ensures err { IfErr result (λ fault. (fault ≡ ExplainFault.Write) × ((W.state writer.new).failed ≡ true)
-        × FrontWent (W.state writer.old).contents (W.state writer.new).contents text.now) }
-{
     pass_on(writer, text.as_bytes()).or(Err(ExplainFault::Write))
 }
 

@@ -1,7 +1,7 @@
 //! A summary in words.
 
 ghost use Rattle.std.specs.Prelude.{◌≡◌, ◌++◌, flat_map, IfOk, OnOk, string_bytes};
-ghost use Rattle.pgp_whole.specs.SummaryText.{between_part, device_line, device_lines, frees_part, groups_part, summary_words, tally_lines, verdict_line};
+ghost use Rattle.pgp_whole.specs.SummaryText.{between_part, device_line, device_lines, frees_part, groups_part, summary_words, verdict_line};
 
 use super::devices::DeviceWaits;
 use super::summary::Summary;
@@ -32,20 +32,13 @@ impl Summary {
         let noun = plural(groups, "group", "groups");
         let epoch = offset.cluster_epoch(self.epoch);
         writeln!(text, "{groups} {noun} at epoch {epoch}")?;
-        self.put_tally(&mut text)?;
+        put_verdicts(self, &VERDICTS, &mut text)?;
         put_devices(self.devices.as_slice(), &mut text)?;
         Ok(text)
     }
-
-    /// How many groups have which verdict.
-    #[tactic(auto, unfolding(crate::specs::SummaryText::tally_lines))]
-    fn put_tally(&self, text: &mut String) -> Result<(), AllocError>
-        ensures { OnOk result (string_bytes text.new ≡ string_bytes text.old ++ tally_lines self.now.verdicts) }
-    {
-        put_verdicts(self, &VERDICTS, text)
-    }
 }
 
+/// How many groups have which of the verdicts.
 fn put_verdicts(
     summary: &Summary,
     verdicts: &[Verdict],

@@ -1,11 +1,11 @@
-use Rattle.std.proofs.Common.{◌≡◌, ℕ, ◌-◌, true, false, map, ap, sym, ◌∙◌, subst, arith}
+use Rattle.std.proofs.Common.{◌≡◌, ℕ, ◌-◌, true, map, ap, sym, ◌∙◌, subst, arith}
 use Rattle.std.specs.List.{filter, range_with_len}
 use Rattle.std.specs.Option.{is_some}
 use Rattle.pgp_lists.specs.Ordered.{IsAscending, with_item}
 use Rattle.pgp_whole.specs.Summary.{is_waited_for, stands_first}
 use Rattle.pgp_whole.specs.Sums.{waits_in}
 use Rattle.pgp_whole.specs.declared.devices.DeviceWaits.{DeviceWaits}
-use Rattle.pgp_whole.proofs.SummaryDevices.{all_numbers, ascends, from_number, none-waits, one-waits}
+use Rattle.pgp_whole.proofs.SummaryDevices.{all_numbers, ascends, one-waits}
 use Rattle.pgp_whole.proofs.devices.devices_of.Goals as goal
 
 pub insert_in_order-requires : goal.insert_in_order-requires

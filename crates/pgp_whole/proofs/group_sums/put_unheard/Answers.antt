@@ -1,4 +1,4 @@
-use Rattle.std.proofs.Common.{◌≡◌, ℕ, List, nat_eq, ap, sym, ◌∙◌, subst}
+use Rattle.std.proofs.Common.{ℕ, List, nat_eq, ap, sym, ◌∙◌, subst}
 use Rattle.std.specs.List.{list_any}
 use Rattle.std.proofs.lemmas.Result.{on_ok_weaker}
 use Rattle.pgp_lists.specs.Ordered.{IsAscending}

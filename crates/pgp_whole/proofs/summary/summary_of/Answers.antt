@@ -1,12 +1,11 @@
-use Rattle.std.proofs.Common.{◌≡◌, List, map, sym, ◌∙◌, subst}
-use Rattle.std.specs.Arc.{arc_value}
+use Rattle.std.proofs.Common.{◌≡◌, List, map, ◌∙◌, subst}
 use Rattle.std.specs.List.{filter_map}
 use Rattle.pgp_ids.specs.declared.entry.Entry.{Entry}
 use Rattle.pgp_ids.specs.declared.pg_id.PgId.{PgId}
 use Rattle.pgp_map.specs.MapOf.{IsMapOf}
 use Rattle.pgp_map.specs.Map.{epoch}
 use Rattle.pgp_group.specs.Entries.{incs_of}
-use Rattle.pgp_group.specs.GroupLog.{GroupLog, group_in}
+use Rattle.pgp_group.specs.GroupLog.{group_in}
 use Rattle.pgp_whole.specs.Hearing.{AreStamps}
 use Rattle.pgp_whole.specs.Summary.{all_groups, devices_of, down_from, group_logs, waits_of}
 use Rattle.pgp_whole.specs.Sums.{AreSums, waits_in}

@@ -1,4 +1,4 @@
-use Rattle.std.proofs.Common.{◌≡◌, ℕ, ◌+◌, ◌<◌, length, take, slice_index, nat_eq}
+use Rattle.std.proofs.Common.{◌≡◌, ℕ, ◌+◌, ◌<◌, take, slice_index, nat_eq}
 use Rattle.std.specs.List.{count_by}
 use Rattle.pgp_whole.specs.Summary.{counted}
 use Rattle.pgp_whole.proofs.group_counts.GroupCounts.add.Given as goal

@@ -1,9 +1,6 @@
-use Rattle.std.proofs.Common.{◌≡◌, ◌++◌, List, ℕ, [], ◌∷◌, ap, sym, ◌∙◌, subst, nat_lt, map}
-use Rattle.std.specs.List.{list_any}
+use Rattle.std.proofs.Common.{◌≡◌, ◌++◌, [], ◌∷◌, ap, sym, ◌∙◌, subst, nat_lt, map}
 use Rattle.std.proofs.lemmas.List.{map-append}
-use Rattle.pgp_ids.specs.declared.view.View.{View}
 use Rattle.pgp_lists.specs.Ordered.{IsAscending}
-use Rattle.pgp_group.specs.GroupLog.{GroupLog}
 use Rattle.pgp_group.specs.Verdict.{verdict}
 use Rattle.pgp_group.specs.View.{view_of}
 use Rattle.pgp_reasons.specs.Smallest.{holds}
