@@ -1,11 +1,9 @@
 pub mod ArenaSend
 pub mod AsBox
-pub mod AskLemmas
 pub mod EachLemmas
 pub mod GivenLemmas
 pub mod IncLemmas
 pub mod OpenLemmas
 pub mod SessionSend
-pub mod SubmitLemmas
 pub mod ReportLemmas
 pub mod NeededLemmas

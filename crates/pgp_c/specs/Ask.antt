@@ -22,28 +22,6 @@ pub record AreOfGroup (pool pg : ℕ) : Type 0 where
 abbrev pub group : ℕ → ℕ → PgId
 group pool pg = record { pool = pool; pg = pg }
 
--- what the log says of the group was put where C reads it, or the number of the refusal is the status
-abbrev pub PutsView : Option View → PgpView → PgpView → ℕ → Type 0
-PutsView None old new status = (new ≡ old) × (status ≡ ask_refusal_number UnknownGroup)
-PutsView (Some view) old new status = (new ≡ pgp_view view) × (status ≡ status_number Done)
-
--- there was no memory for what the log says of the group, where its map has the group
-pub record LacksViewMemory (view : Option View) (old new : PgpView) (status : ℕ) : Type 0 where
-  pub there : is_some view ≡ true
-  pub same : new ≡ old
-  pub status_is : status ≡ status_number NoMemory
-
--- The question was answered by the log.
-pub record AsksIn (log : List Entry) (pool pg : ℕ) (old new : PgpView) (status : ℕ) : Type 0 where
-  pub bad : (AreOfGroup pool pg → ⊥) → (new ≡ old) × (status ≡ status_number BadArgument)
-  pub good : AreOfGroup pool pg
-      → PutsView (view_in log (group pool pg)) old new status ⊎ LacksViewMemory (view_in log (group pool pg)) old new status
-
--- The question was answered by a session, where there is one.
-abbrev pub Asks : Option LogAndAnswer → Option LogAndAnswer → ℕ → ℕ → PgpView → PgpView → ℕ → Type 0
-Asks None now pool pg old new status = (now ≡ None) × (new ≡ old) × (status ≡ status_number NotOpen)
-Asks (Some was) now pool pg old new status = (now ≡ Some was) × AsksIn was.log pool pg old new status
-
 -- the view, or the number of the refusal
 abbrev pub view_or_refusal : Option View → Result View ℕ
 view_or_refusal None = Err (ask_refusal_number UnknownGroup)
@@ -54,6 +32,22 @@ pub record AnswersIn (log : List Entry) (pool pg : ℕ) (answer : Result View �
   pub bad : (AreOfGroup pool pg → ⊥) → answer ≡ Err (status_number BadArgument)
   pub good : AreOfGroup pool pg → (answer ≡ view_or_refusal (view_in log (group pool pg)))
       ⊎ ((is_some (view_in log (group pool pg)) ≡ true) × (answer ≡ Err (status_number NoMemory)))
+
+-- This was put of what the log says of the group.
+pub record Gives (log : List Entry) (pool pg : ℕ) (Puts : Result View ℕ → Type 0) : Type 0 where
+  pub answer : Result View ℕ
+  pub answers : AnswersIn log pool pg answer
+  pub put : Puts answer
+
+-- the view was put where C reads it, or nothing was, for this reason
+abbrev pub PutsView : Result View ℕ → PgpView → PgpView → ℕ → Type 0
+PutsView (Ok view) old new status = (new ≡ pgp_view view) × (status ≡ status_number Done)
+PutsView (Err why) old new status = (new ≡ old) × (status ≡ why)
+
+-- The question was answered by a session, where there is one.
+abbrev pub Asks : Option LogAndAnswer → Option LogAndAnswer → ℕ → ℕ → PgpView → PgpView → ℕ → Type 0
+Asks None now pool pg old new status = (now ≡ None) × (new ≡ old) × (status ≡ status_number NotOpen)
+Asks (Some was) now pool pg old new status = (now ≡ Some was) × Gives was.log pool pg (λ answer. PutsView answer old new status)
 
 -- the view with the log's count and epoch
 abbrev pub whole_view : List Entry → View → View

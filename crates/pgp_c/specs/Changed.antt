@@ -21,11 +21,8 @@ pub record PutsChanged (n : ℕ) (log : List Entry) (old new : List PgpGroup) (c
   pub count_is : count ≡ length ids
   pub status_is : status ≡ status_number (put_status (map pgp_group_of ids) old)
 
--- The groups were told that may have changed, where there was memory to find them.
-abbrev pub TellsChangedIn : ℕ → List Entry → List PgpGroup → List PgpGroup → ℕ → ℕ → Type 0
-TellsChangedIn n log old new count status = PutsChanged n log old new count status ⊎ PutsNone old new count status (status_number NoMemory)
-
--- The groups of a session's log were told that may have changed, where there is a session.
+-- The groups of a session's log were told that may have changed, where there is a session and memory to find them.
 abbrev pub TellsChanged : Option LogAndAnswer → Option LogAndAnswer → ℕ → List PgpGroup → List PgpGroup → ℕ → ℕ → Type 0
 TellsChanged None now n old new count status = (now ≡ None) × PutsNone old new count status (status_number NotOpen)
-TellsChanged (Some was) now n old new count status = (now ≡ Some was) × TellsChangedIn n was.log old new count status
+TellsChanged (Some was) now n old new count status =
+    (now ≡ Some was) × (PutsChanged n was.log old new count status ⊎ PutsNone old new count status (status_number NoMemory))

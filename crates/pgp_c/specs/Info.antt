@@ -1,13 +1,12 @@
 -- How an info that C tells ends. This project's own choice.
 use Rattle.std.specs.Prelude.{◌≡◌, ℕ, ◌≤◌, Option, Some, None, nat_eq}
-use Rattle.pgp_ids.specs.declared.entry.Entry.{Entry}
 use Rattle.pgp_ids.specs.declared.entry.Entry.TheVariants as entry
 use Rattle.pgp_ids.specs.declared.report.Info.{Info}
 use Rattle.pgp_core.specs.Session.{LogAndAnswer}
 use Rattle.pgp_c.specs.Ask.{AreOfGroup, group}
 use Rattle.pgp_c.specs.Member.{AreOfMember, member}
 use Rattle.pgp_c.specs.Status.{status_number}
-use Rattle.pgp_c.specs.Submit.{SubmitsEntry}
+use Rattle.pgp_c.specs.Submit.{TellsEntry}
 use Rattle.pgp_c.specs.declared.info.PgpInfo.{PgpInfo}
 use Rattle.pgp_c.specs.declared.status.Status.TheVariants.{NotOpen, BadArgument}
 
@@ -30,13 +29,10 @@ told_info info = record {
   complete = nat_eq info.complete 1;
 }
 
-abbrev pub entry_of : PgpInfo → Entry
-entry_of info = entry.Info (told_info info)
-
 -- An info was told to a session, which goes from `was` to `now`.
 pub record SubmitsIn (was now : LogAndAnswer) (info : PgpInfo) (status : ℕ) : Type 0 where
   pub bad : (IsInfo info → ⊥) → (now ≡ was) × (status ≡ status_number BadArgument)
-  pub good : IsInfo info → SubmitsEntry was now (entry_of info) status
+  pub good : IsInfo info → TellsEntry was now (entry.Info (told_info info)) status
 
 -- An info was told to a session, where there is one.
 abbrev pub Submits : Option LogAndAnswer → Option LogAndAnswer → PgpInfo → ℕ → Type 0

@@ -1,23 +1,20 @@
 -- The lists of what a log says of a placement group, as C reads them. This project's own choice.
-use Rattle.std.specs.Prelude.{◌≡◌, ◌⊎◌, ℕ, List, length, true, Option, Some, None, is_some, option_map, if◌then◌else◌}
-use Rattle.pgp_ids.specs.declared.entry.Entry.{Entry}
+use Rattle.std.specs.Prelude.{◌≡◌, ℕ, List, length, Option, Some, None, Result, Ok, Err, if◌then◌else◌}
 use Rattle.pgp_ids.specs.declared.member.Member.{Member}
 use Rattle.pgp_ids.specs.declared.past.Past.{Past}
 use Rattle.pgp_ids.specs.declared.peer.PeerMissing.{PeerMissing}
 use Rattle.pgp_ids.specs.declared.peer.PeerState.{PeerState}
 use Rattle.pgp_ids.specs.declared.peer.PeerState.TheVariants.{Missing, Backfill, Diverged}
 use Rattle.pgp_ids.specs.declared.view.View.{View}
-use Rattle.pgp_ids.specs.AskRefusal.{ask_refusal_number}
-use Rattle.pgp_ids.specs.declared.ask_refusal.AskRefusal.TheVariants.{UnknownGroup}
-use Rattle.pgp_core.specs.Session.{LogAndAnswer, view_in}
-use Rattle.pgp_c.specs.Ask.{AreOfGroup, group}
+use Rattle.pgp_core.specs.Session.{LogAndAnswer}
+use Rattle.pgp_c.specs.Ask.{Gives}
 use Rattle.pgp_c.specs.Exports.{put_into, put_status}
 use Rattle.pgp_c.specs.Place.{device_number, sixteen}
 use Rattle.pgp_c.specs.Status.{status_number}
 use Rattle.pgp_c.specs.declared.lists.PgpInterval.{PgpInterval}
 use Rattle.pgp_c.specs.declared.lists.PgpMember.{PgpMember}
 use Rattle.pgp_c.specs.declared.lists.PgpPeer.{PgpPeer}
-use Rattle.pgp_c.specs.declared.status.Status.TheVariants.{NoMemory, NotOpen, BadArgument}
+use Rattle.pgp_c.specs.declared.status.Status.TheVariants.{NotOpen}
 
 abbrev pub pgp_device : ℕ → ℕ
 pgp_device device = device
@@ -60,30 +57,19 @@ peer_of peer = record {
   state = peer_state_number peer.state;
 }
 
--- the list was put where C reads it, where it fits, or the number of the refusal is the status
-abbrev pub PutsList : {C : Type 0} → Option (List C) → List C → List C → ℕ → ℕ → Type 0
-PutsList None old new count status = (new ≡ old) × (count ≡ 0) × (status ≡ ask_refusal_number UnknownGroup)
-PutsList (Some list) old new count status = (new ≡ put_into list old) × (count ≡ length list) × (status ≡ status_number (put_status list old))
-
 -- nothing was put, for this reason
 pub record PutsNone {C : Type 0} (old new : List C) (count status reason : ℕ) : Type 0 where
   pub room : new ≡ old
   pub none : count ≡ 0
   pub status_is : status ≡ reason
 
--- there was no memory for what the log says of the group, where its map has the group
-pub record FindsNoList {C : Type 0} (view : Option View) (old new : List C) (count status : ℕ) : Type 0 where
-  pub there : is_some view ≡ true
-  pub none : PutsNone old new count status (status_number NoMemory)
-
--- A list of what the log says of a group was put where C reads it.
-pub record ListsIn {C : Type 0} (log : List Entry) (pool pg : ℕ) (list : View → List C) (old new : List C) (count status : ℕ) : Type 0 where
-  pub bad : (AreOfGroup pool pg → ⊥) → PutsNone old new count status (status_number BadArgument)
-  pub good : AreOfGroup pool pg
-      → PutsList (option_map list (view_in log (group pool pg))) old new count status
-      ⊎ FindsNoList (view_in log (group pool pg)) old new count status
+-- the list of a view was put where C reads it, where it fits, or nothing was, for this reason
+abbrev pub PutsList : {C : Type 0} → Result View ℕ → (View → List C) → List C → List C → ℕ → ℕ → Type 0
+PutsList (Ok view) list old new count status =
+    (new ≡ put_into (list view) old) × (count ≡ length (list view)) × (status ≡ status_number (put_status (list view) old))
+PutsList (Err why) list old new count status = PutsNone old new count status why
 
 -- A list of what a session says of a group was put where C reads it, where there is a session.
 abbrev pub Lists : {C : Type 0} → Option LogAndAnswer → Option LogAndAnswer → ℕ → ℕ → (View → List C) → List C → List C → ℕ → ℕ → Type 0
 Lists None now pool pg list old new count status = (now ≡ None) × PutsNone old new count status (status_number NotOpen)
-Lists (Some was) now pool pg list old new count status = (now ≡ Some was) × ListsIn was.log pool pg list old new count status
+Lists (Some was) now pool pg list old new count status = (now ≡ Some was) × Gives was.log pool pg (λ answer. PutsList answer list old new count status)

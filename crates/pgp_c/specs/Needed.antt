@@ -21,11 +21,8 @@ pub record PutsNeeded (log : List Entry) (old new : List ℕ) (count status : �
   pub count_is : count ≡ length log
   pub status_is : status ≡ status_number (put_status (needed_flags log) old)
 
--- Of each entry of the log it was said whether it stays, where there was memory to find out.
-abbrev pub NeedsIn : List Entry → List ℕ → List ℕ → ℕ → ℕ → Type 0
-NeedsIn log old new count status = PutsNeeded log old new count status ⊎ PutsNone old new count status (status_number NoMemory)
-
--- Of each entry of a session's log it was said whether it stays, where there is a session.
+-- Of each entry of a session's log it was said whether it stays, where there is a session and memory to find out.
 abbrev pub Needs : Option LogAndAnswer → Option LogAndAnswer → List ℕ → List ℕ → ℕ → ℕ → Type 0
 Needs None now old new count status = (now ≡ None) × PutsNone old new count status (status_number NotOpen)
-Needs (Some was) now old new count status = (now ≡ Some was) × NeedsIn was.log old new count status
+Needs (Some was) now old new count status =
+    (now ≡ Some was) × (PutsNeeded was.log old new count status ⊎ PutsNone old new count status (status_number NoMemory))

@@ -1,5 +1,5 @@
 -- The objects that a member of a placement group lacks, as C reads them. This project's own choice.
-use Rattle.std.specs.Prelude.{◌≡◌, ◌⊎◌, ℕ, List, [], ◌∷◌, length, map, replicate, Option, Some, None, if◌then◌else◌}
+use Rattle.std.specs.Prelude.{◌≡◌, ℕ, List, [], ◌∷◌, length, map, replicate, Option, Some, None, Result, Ok, Err, if◌then◌else◌}
 use Rattle.pgp_ids.specs.Member.{is_same_member}
 use Rattle.pgp_ids.specs.declared.entry.Entry.{Entry}
 use Rattle.pgp_ids.specs.declared.member.Member.{Member}
@@ -8,12 +8,10 @@ use Rattle.pgp_ids.specs.declared.peer.PeerMissing.{PeerMissing}
 use Rattle.pgp_ids.specs.declared.peer.PeerState.{PeerState}
 use Rattle.pgp_ids.specs.declared.peer.PeerState.TheVariants.{Missing, Backfill, Diverged}
 use Rattle.pgp_ids.specs.declared.view.View.{View}
-use Rattle.pgp_ids.specs.AskRefusal.{ask_refusal_number}
-use Rattle.pgp_ids.specs.declared.ask_refusal.AskRefusal.TheVariants.{UnknownGroup}
-use Rattle.pgp_core.specs.Session.{LogAndAnswer, view_in}
-use Rattle.pgp_c.specs.Ask.{AreOfGroup, group}
+use Rattle.pgp_core.specs.Session.{LogAndAnswer}
+use Rattle.pgp_c.specs.Ask.{Gives}
 use Rattle.pgp_c.specs.Exports.{put_into, put_status}
-use Rattle.pgp_c.specs.Lists.{FindsNoList, PutsNone}
+use Rattle.pgp_c.specs.Lists.{PutsNone}
 use Rattle.pgp_c.specs.Member.{AreOfMember, member}
 use Rattle.pgp_c.specs.Status.{status_number}
 use Rattle.pgp_c.specs.declared.objects.PgpObject.{PgpObject}
@@ -48,17 +46,15 @@ PutsObjects None old new count status = PutsNone old new count status (status_nu
 PutsObjects (Some objects) old new count status =
     (new ≡ put_into (map pgp_object objects) old) × (count ≡ length objects) × (status ≡ status_number (put_status (map pgp_object objects) old))
 
--- those that a member lacks by what the log says of a group, where its map has the group
-abbrev pub PutsLacked : Option View → Member → List PgpObject → List PgpObject → ℕ → ℕ → Type 0
-PutsLacked None who old new count status = PutsNone old new count status (ask_refusal_number UnknownGroup)
-PutsLacked (Some view) who old new count status = PutsObjects (objects_of view.missing who) old new count status
+-- those that a member lacks by the view were put, or nothing was, for this reason
+abbrev pub PutsLacked : Result View ℕ → Member → List PgpObject → List PgpObject → ℕ → ℕ → Type 0
+PutsLacked (Ok view) who old new count status = PutsObjects (objects_of view.missing who) old new count status
+PutsLacked (Err why) who old new count status = PutsNone old new count status why
 
 -- The objects that a member lacks, as the log says, were put where C reads them.
 pub record ObjectsIn (log : List Entry) (pool pg osd slot : ℕ) (old new : List PgpObject) (count status : ℕ) : Type 0 where
-  pub bad : (AreOfGroup pool pg → AreOfMember osd slot → ⊥) → PutsNone old new count status (status_number BadArgument)
-  pub good : AreOfGroup pool pg → AreOfMember osd slot
-      → PutsLacked (view_in log (group pool pg)) (member osd slot) old new count status
-      ⊎ FindsNoList (view_in log (group pool pg)) old new count status
+  pub bad : (AreOfMember osd slot → ⊥) → PutsNone old new count status (status_number BadArgument)
+  pub good : AreOfMember osd slot → Gives log pool pg (λ answer. PutsLacked answer (member osd slot) old new count status)
 
 -- The objects that a member lacks, as a session says, were put where C reads them, where there is a session.
 abbrev pub Objects : Option LogAndAnswer → Option LogAndAnswer → ℕ → ℕ → ℕ → ℕ → List PgpObject → List PgpObject → ℕ → ℕ → Type 0

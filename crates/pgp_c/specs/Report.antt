@@ -2,7 +2,6 @@
 use Rattle.std.specs.Prelude.{◌≡◌, ◌⊎◌, ℕ, ◌≤◌, List, length, map, take, Bool, true, ◌&&◌, nat_eq, nat_le, Option, Some, None, if◌then◌else◌}
 use Rattle.std.specs.List.{list_all}
 use Rattle.std.specs.Str.{is_utf8}
-use Rattle.pgp_ids.specs.declared.entry.Entry.{Entry}
 use Rattle.pgp_ids.specs.declared.entry.Entry.TheVariants as entry
 use Rattle.pgp_ids.specs.declared.log_entry.Change.{Change}
 use Rattle.pgp_ids.specs.declared.log_entry.Change.TheVariants.{Modify, Delete}
@@ -12,7 +11,7 @@ use Rattle.pgp_core.specs.Session.{LogAndAnswer}
 use Rattle.pgp_c.specs.Ask.{AreOfGroup, group}
 use Rattle.pgp_c.specs.Member.{AreOfMember, member}
 use Rattle.pgp_c.specs.Status.{status_number}
-use Rattle.pgp_c.specs.Submit.{SubmitsEntry}
+use Rattle.pgp_c.specs.Submit.{TellsEntry}
 use Rattle.pgp_c.specs.declared.report.PgpLogEntry.{PgpLogEntry}
 use Rattle.pgp_c.specs.declared.report.PgpReport.{PgpReport}
 use Rattle.pgp_c.specs.declared.status.Status.TheVariants.{NoMemory, NotOpen, BadArgument}
@@ -59,7 +58,7 @@ pub record LacksReport (was now : LogAndAnswer) (status : ℕ) : Type 0 where
 -- A part of a member's log was told to a session, which goes from `was` to `now`.
 pub record SubmitsReport (was now : LogAndAnswer) (report : PgpReport) (log : List PgpLogEntry) (status : ℕ) : Type 0 where
   pub bad : (IsReport report log → ⊥) → (now ≡ was) × (status ≡ status_number BadArgument)
-  pub good : IsReport report log → SubmitsEntry was now (entry.Entries (told_report report log)) status ⊎ LacksReport was now status
+  pub good : IsReport report log → TellsEntry was now (entry.Entries (told_report report log)) status ⊎ LacksReport was now status
 
 -- A part of a member's log was told to a session, where there is one.
 abbrev pub SubmitsEntries : Option LogAndAnswer → Option LogAndAnswer → PgpReport → List PgpLogEntry → ℕ → Type 0

@@ -4,7 +4,6 @@ use Rattle.pgp_ids.specs.declared.entry.Entry.{Entry}
 use Rattle.pgp_ids.specs.declared.entry.Entry.TheVariants as entry
 use Rattle.pgp_ids.specs.Refusal.{refusal_number}
 use Rattle.pgp_lines.specs.declared.command.Command.TheVariants.{Submit}
-use Rattle.pgp_log.specs.Fits.{fits}
 use Rattle.pgp_text.specs.declared.reply.Reply.{Reply}
 use Rattle.pgp_text.specs.declared.reply.Reply.TheVariants.{Accepted, Asked, Located, Traced, Refused}
 use Rattle.pgp_text.specs.declared.reply.line_refusal.LineRefusal.TheVariants as why
@@ -41,20 +40,8 @@ pub record TellsEntry (was now : LogAndAnswer) (new : Entry) (status : ℕ) : Ty
   pub format : now.format ≡ was.format
   pub told : IsEntryTold was now new status ⊎ IsLackingMemory was now new status
 
--- there was no memory for the entry, which is one that the log takes
-pub record IsLacking (was now : LogAndAnswer) (new : Entry) (status : ℕ) : Type 0 where
-  pub takes : fits was.log new ≡ None
-  pub log : now.log ≡ was.log
-  pub status_is : status ≡ status_number NoMemory
-
--- An entry other than an incremental was told to a session, which goes from `was` to `now`.
-pub record SubmitsEntry (was now : LogAndAnswer) (new : Entry) (status : ℕ) : Type 0 where
-  pub answer : now.answer ≡ was.answer
-  pub format : now.format ≡ was.format
-  pub told : IsEntryTold was now new status ⊎ IsLacking was now new status
-
 -- The log of a session was closed by its last entry, where there is a session.
 abbrev pub SubmitsClose : Option LogAndAnswer → Option LogAndAnswer → ℕ → Type 0
 SubmitsClose None now status = (now ≡ None) × (status ≡ status_number NotOpen)
 SubmitsClose (Some was) None status = ⊥
-SubmitsClose (Some was) (Some now) status = SubmitsEntry was now entry.Close status
+SubmitsClose (Some was) (Some now) status = TellsEntry was now entry.Close status

@@ -3,7 +3,7 @@ use Rattle.std.specs.Prelude.{ℕ, ℤ, pos, negsuc, int_le, ◌&&◌, List, [],
 use Rattle.pgp_ids.specs.declared.bucket.BucketAlg.{BucketAlg}
 use Rattle.pgp_ids.specs.declared.bucket.BucketAlg.TheVariants.{Uniform, List as Weighed, Straw2}
 use Rattle.pgp_ids.specs.declared.bucket.BucketSpec.{BucketSpec}
-use Rattle.pgp_lines.specs.MadeBucket.{bucket_from as made_bucket}
+use Rattle.pgp_lines.specs.MadeBucket.{bucket_from}
 use Rattle.pgp_lines.specs.Shapes.{◌>>=◌}
 use Rattle.pgp_c.specs.Each.{each_given}
 use Rattle.pgp_c.specs.declared.tree.PgpBucket.{PgpBucket}
@@ -31,4 +31,4 @@ given_bucket given = do
   alg ← alg_numbered given.alg
   items ← each_given item_of given.items.now
   weights ← weights_of alg given.items.now
-  made_bucket given.id given.kind alg items weights
+  bucket_from given.id given.kind alg items weights

@@ -1,21 +1,11 @@
 -- What a log says of a placement group, as C reads it. This project's own choice.
-use Rattle.std.specs.Prelude.{ℕ, Option, Some, None, length}
-use Rattle.pgp_ids.specs.declared.member.Member.{Member}
+use Rattle.std.specs.Prelude.{ℕ, length, option_map}
+use Rattle.std.specs.Option.{option_map_or}
 use Rattle.pgp_ids.specs.declared.verdict.Verdict.{Verdict}
 use Rattle.pgp_ids.specs.declared.verdict.Verdict.TheVariants.{NoPrimary, Down, Waiting, Incomplete, Short, NeedLog, NeedUpThru, Serve}
 use Rattle.pgp_ids.specs.declared.view.View.{View}
 use Rattle.pgp_c.specs.Place.{device_number, sixteen}
 use Rattle.pgp_c.specs.declared.view.PgpView.{PgpView}
-
--- the device of the best member
-abbrev pub best_osd : Option Member → ℕ
-best_osd None = device_number None
-best_osd (Some member) = member.osd
-
--- the slot of the best member
-abbrev pub best_slot : Option Member → ℕ
-best_slot None = 0
-best_slot (Some member) = member.slot
 
 -- the number by which C knows a verdict
 abbrev pub verdict_number : Verdict → ℕ
@@ -41,8 +31,8 @@ pgp_view view = record {
   verdict = verdict_number view.verdict;
   up_primary = device_number view.up_primary;
   acting_primary = device_number view.acting_primary;
-  best_osd = best_osd view.best;
-  best_slot = best_slot view.best;
+  best_osd = device_number (option_map (λ best. best.osd) view.best);
+  best_slot = option_map_or (λ best. best.slot) view.best 0;
   up_length = length view.up;
   acting_length = length view.acting;
   up = sixteen view.up;

@@ -4,11 +4,7 @@ use Rattle.pgp_core.specs.Session.{LogAndAnswer}
 use Rattle.pgp_c.specs.Status.{status_number}
 use Rattle.pgp_c.specs.declared.status.Status.TheVariants.{Done, NoMemory, NotOpen}
 
--- Some of it was done, or there was no memory for it.
-abbrev pub WorksIn : ℕ → ℕ → Type 0
-WorksIn left status = (status ≡ status_number Done) ⊎ ((left ≡ 0) × (status ≡ status_number NoMemory))
-
--- Some of it was done by a session, where there is one. The session says what it said before.
+-- Some of it was done by a session, where there is one, or there was no memory for it. The session says what it said before.
 abbrev pub Works : Option LogAndAnswer → Option LogAndAnswer → ℕ → ℕ → Type 0
 Works None now left status = (now ≡ None) × (left ≡ 0) × (status ≡ status_number NotOpen)
-Works (Some was) now left status = (now ≡ Some was) × WorksIn left status
+Works (Some was) now left status = (now ≡ Some was) × ((status ≡ status_number Done) ⊎ ((left ≡ 0) × (status ≡ status_number NoMemory)))

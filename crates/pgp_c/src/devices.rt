@@ -1,6 +1,5 @@
 //! What a map incremental says of devices, as C gives it.
 
-ghost use Rattle.pgp_c.specs.Each.{IsGiven};
 ghost use Rattle.pgp_c.specs.Devices.{osd_of, device_weight_of, device_epoch_of};
 
 use super::each::OfC;
@@ -26,29 +25,23 @@ pub struct PgpDeviceEpoch {
 }
 
 /// The device of this number.
-fn osd_of(number: u32) -> Result<OsdId, Status>
-    ensures { IsGiven result (osd_of number) }
-{
-    if number > u32::from(OsdId::MAX) {
-        return Err(Status::BadArgument);
-    }
-    OsdId::new(number as u16).ok_or(Status::BadArgument)
-}
-
 impl OfC<u32> for OsdId {
     ghost of_c = { osd_of };
 
     fn of_c(_alloc: Global, given: &u32) -> Result<OsdId, Status> {
-        osd_of(*given)
+        if *given > u32::from(OsdId::MAX) {
+            return Err(Status::BadArgument);
+        }
+        OsdId::new(*given as u16).ok_or(Status::BadArgument)
     }
 }
 
 impl OfC<PgpDeviceWeight> for DeviceWeight {
     ghost of_c = { device_weight_of };
 
-    fn of_c(_alloc: Global, given: &PgpDeviceWeight) -> Result<DeviceWeight, Status> {
+    fn of_c(alloc: Global, given: &PgpDeviceWeight) -> Result<DeviceWeight, Status> {
         Ok(DeviceWeight {
-            osd: osd_of(given.osd)?,
+            osd: OsdId::of_c(alloc, &given.osd)?,
             weight: given.weight,
         })
     }
@@ -57,9 +50,9 @@ impl OfC<PgpDeviceWeight> for DeviceWeight {
 impl OfC<PgpDeviceEpoch> for DeviceEpoch {
     ghost of_c = { device_epoch_of };
 
-    fn of_c(_alloc: Global, given: &PgpDeviceEpoch) -> Result<DeviceEpoch, Status> {
+    fn of_c(alloc: Global, given: &PgpDeviceEpoch) -> Result<DeviceEpoch, Status> {
         Ok(DeviceEpoch {
-            osd: osd_of(given.osd)?,
+            osd: OsdId::of_c(alloc, &given.osd)?,
             epoch: Epoch::new(given.epoch),
         })
     }

@@ -7,14 +7,16 @@ ghost use Rattle.pgp_c.specs.Lists.{Lists, pgp_device, interval_of, member_of, p
 ghost use Rattle.pgp_c.specs.Locate.{Locates};
 ghost use Rattle.pgp_c.specs.Objects.{Objects};
 
-use super::changed::{PgpGroup, put_changed};
+use super::ask::ask;
+use super::changed::PgpGroup;
+use super::each::put_each;
 use super::lists::{PgpInterval, PgpMember, PgpPeer, put_list};
 use super::locate::locate;
 use super::objects::{PgpObject, put_objects};
 use super::place::PgpPlace;
 use super::session::PgpSession;
 use super::status::Status;
-use super::view::{PgpView, put_view};
+use super::view::{PgpView, view_of};
 use pgp_ids::{Member, OsdId, Past, PeerMissing};
 use std::alloc::Global;
 
@@ -52,7 +54,15 @@ pub extern "C" fn pgp_ask(
     let Some(mut opened) = session.take(alloc) else {
         return Status::NotOpen.number();
     };
-    let status = put_view(&mut opened, pool, pg, view);
+    let count = opened.entries().len();
+    let epoch = opened.epoch();
+    let status = match ask(&mut opened, pool, pg) {
+        Ok(of_group) => {
+            *view = view_of(of_group, count, epoch);
+            Status::Done.number()
+        }
+        Err(status) => status,
+    };
     session.put(opened);
     status
 }
@@ -160,7 +170,10 @@ pub extern "C" fn pgp_changed(
     let Some(mut opened) = session.take(alloc) else {
         return Status::NotOpen.number();
     };
-    let status = put_changed(&mut opened, since, room, count);
+    let changed = opened.changed_since(since);
     session.put(opened);
-    status
+    match changed {
+        Ok(groups) => put_each(groups.as_slice(), room, count).number(),
+        Err(_) => Status::NoMemory.number(),
+    }
 }

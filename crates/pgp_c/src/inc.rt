@@ -1,8 +1,5 @@
 //! A map incremental, as C gives it.
 
-ghost use Rattle.std.specs.Prelude.{◌≡◌};
-ghost use Rattle.std.specs.List.{list_all};
-ghost use Rattle.pgp_lines.specs.Format.{has_after, has_alg, has_tree};
 ghost use Rattle.pgp_c.specs.Each.{IsGiven, PutsGiven};
 ghost use Rattle.pgp_c.specs.Inc.{SubmitsGiven, after_of, given_inc, allowed_tree, tree_of, with_devices, with_given_pools};
 
@@ -13,7 +10,7 @@ use super::status::Status;
 use super::submit::tell;
 use super::tree::PgpBucket;
 use pgp_core::Session;
-use pgp_ids::{BucketAlg, BucketSpec, Entry, Epoch, Incremental, Seq};
+use pgp_ids::{BucketSpec, Entry, Epoch, Incremental, Seq};
 use pgp_lines::Format;
 use std::alloc::Global;
 
@@ -62,18 +59,11 @@ fn inc_of(alloc: Global, format: Format, given: &PgpInc<'_>) -> Result<Increment
 fn after_of(format: Format, given: &PgpInc<'_>) -> Result<u32, Status>
     ensures { IsGiven result (after_of format given.now) }
 {
-    if is_three(format) || given.after == given.epoch.saturating_sub(1) {
+    if format.has_after() || given.after == given.epoch.saturating_sub(1) {
         Ok(given.after)
     } else {
         Err(Status::BadArgument)
     }
-}
-
-/// Whether it is the version that has incrementals which pass over epochs.
-fn is_three(format: Format) -> bool
-    ensures { result ≡ has_after format }
-{
-    matches!(format, Format::Three)
 }
 
 /// Puts in what it says of devices.
@@ -108,7 +98,7 @@ fn tree_in(
     ensures { IsGiven result (allowed_tree format given.now) }
 {
     let tree = tree_of(alloc, given.crush)?;
-    if !has_tree(format, &tree) {
+    if !format.has_tree(&tree) {
         return Err(Status::BadArgument);
     }
     Ok(tree)
@@ -122,29 +112,4 @@ fn tree_of(alloc: Global, buckets: &[PgpBucket<'_>]) -> Result<Option<Seq<Bucket
         return Ok(None);
     }
     Ok(Some(each_of(alloc, buckets)?))
-}
-
-/// Whether a line of this version can have each bucket of the tree, where there is one.
-fn has_tree(format: Format, tree: &Option<Seq<BucketSpec>>) -> bool
-    ensures { result ≡ has_tree format tree.now }
-{
-    match tree {
-        Some(buckets) => has_buckets(format, buckets.as_slice()),
-        None => true,
-    }
-}
-
-fn has_buckets(format: Format, buckets: &[BucketSpec]) -> bool
-    ensures { result ≡ list_all (λ bucket. has_alg format bucket.alg) buckets.now }
-{
-    buckets.iter().all(|bucket| has_alg(format, bucket.alg))
-}
-
-fn has_alg(format: Format, alg: BucketAlg) -> bool
-    ensures { result ≡ has_alg format alg }
-{
-    match alg {
-        BucketAlg::Uniform | BucketAlg::List => true,
-        BucketAlg::Straw2 => format.number() >= 3,
-    }
 }

@@ -6,7 +6,7 @@ ghost use Rattle.pgp_c.specs.Member.{AreOfMember, member};
 
 use super::ask::group_of;
 use super::status::Status;
-use super::submit::submit;
+use super::submit::tell;
 use pgp_core::Session;
 use pgp_ids::{Entry, Epoch, Info, Member, OsdId, Version};
 
@@ -49,7 +49,7 @@ pub fn submit_info(session: &mut Session, info: &PgpInfo) -> u32
     let Some(info) = info_of(info) else {
         return Status::BadArgument.number();
     };
-    submit(session, Entry::Info(info))
+    tell(session, Entry::Info(info))
 }
 
 /// The info with these numbers, if each is in its range.

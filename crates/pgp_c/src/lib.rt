@@ -36,7 +36,6 @@ mod status;
 mod submit;
 mod tree;
 mod view;
-mod work;
 
 /// Version 0.3.0.
 const VERSION: u32 = 300;

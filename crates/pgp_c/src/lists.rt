@@ -3,14 +3,13 @@
 ghost use Rattle.std.specs.Prelude.{◌≡◌, ℕ, List, map, refl};
 ghost use Rattle.pgp_group.specs.Touched.{view_at};
 ghost use Rattle.pgp_ids.specs.declared.view.View.{View as AnyView};
-ghost use Rattle.pgp_c.specs.Lists.{Lists, ListsIn, pgp_device, interval_of, lacking_count, member_of, peer_of, peer_state_number};
+ghost use Rattle.pgp_c.specs.Lists.{Lists, pgp_device, interval_of, lacking_count, member_of, peer_of, peer_state_number};
 
 use super::ask::ask;
 use super::each::{AsC, put_each};
 use super::place::{device_number, sixteen};
 use super::session::PgpSession;
 use super::status::Status;
-use pgp_core::Session;
 use pgp_ids::{Member, OsdId, Past, PeerMissing, PeerState, View};
 use std::alloc::Global;
 
@@ -129,27 +128,12 @@ pub fn put_list<T: AsC<C> + InView, C: Copy>(
     let Some(mut opened) = session.take(alloc) else {
         return Status::NotOpen.number();
     };
-    let status = put_list_of::<T, C>(&mut opened, pool, pg, room, count);
-    session.put(opened);
-    status
-}
-
-/// The same of an open session.
-fn put_list_of<T: AsC<C> + InView, C: Copy>(
-    session: &mut Session,
-    pool: u32,
-    pg: u32,
-    room: &mut [C],
-    count: &mut usize,
-) -> u32
-    requires { count.old ≡ 0 }
-    ensures same { session.new ≡ session.old }
-    ensures list { ListsIn session.old.log pool pg (λ view. map T.as_c (T.list_in view)) room.old room.new count.new result }
-{
-    match ask(session, pool, pg) {
+    let status = match ask(&mut opened, pool, pg) {
         Ok(view) => put_each(T::list_in(view), room, count).number(),
         Err(status) => status,
-    }
+    };
+    session.put(opened);
+    status
 }
 
 impl AsC<u16> for OsdId {

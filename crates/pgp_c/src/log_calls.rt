@@ -10,15 +10,16 @@ ghost use Rattle.pgp_c.specs.Report.{SubmitsEntries};
 ghost use Rattle.pgp_c.specs.Submit.{SubmitsClose};
 
 use super::compact::compact_log;
+use super::each::put_each;
 use super::inc::{PgpInc, submit_inc};
 use super::info::{PgpInfo, submit_info};
 use super::joined_lines::put_joined_lines;
 use super::log::{PgpLog, log_of};
-use super::needed::put_needed;
 use super::report::{PgpLogEntry, PgpReport, submit_entries};
 use super::session::PgpSession;
 use super::status::Status;
-use super::submit::submit;
+use super::submit::tell;
+use pgp_compact::needed;
 use pgp_ids::Entry;
 use std::alloc::Global;
 
@@ -76,7 +77,7 @@ pub extern "C" fn pgp_submit_close(alloc: Global, session: &mut PgpSession) -> u
     let Some(mut opened) = session.take(alloc) else {
         return Status::NotOpen.number();
     };
-    let status = submit(&mut opened, Entry::Close);
+    let status = tell(&mut opened, Entry::Close);
     session.put(opened);
     status
 }
@@ -109,9 +110,12 @@ pub extern "C" fn pgp_needed(
     let Some(opened) = session.take(alloc) else {
         return Status::NotOpen.number();
     };
-    let status = put_needed(alloc, &opened, room, count);
+    let found = needed(alloc, opened.entries());
     session.put(opened);
-    status
+    match found {
+        Ok(choices) => put_each(choices.as_slice(), room, count).number(),
+        Err(_) => Status::NoMemory.number(),
+    }
 }
 
 /// Removes from the session's log reports that no answer needs, and puts their number into `left_out`.

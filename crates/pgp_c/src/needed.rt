@@ -1,13 +1,8 @@
-//! Which entries stay where a session's log is compacted.
+//! Whether an entry stays where a session's log is compacted, as C reads it.
 
-ghost use Rattle.std.specs.Prelude.{◌≡◌};
-ghost use Rattle.pgp_c.specs.Needed.{NeedsIn, flag};
+ghost use Rattle.pgp_c.specs.Needed.{flag};
 
-use super::each::{AsC, put_each};
-use super::status::Status;
-use pgp_compact::needed;
-use pgp_core::Session;
-use std::alloc::Global;
+use super::each::AsC;
 
 /// 1 where it is true, else 0.
 impl AsC<u8> for bool {
@@ -15,16 +10,5 @@ impl AsC<u8> for bool {
 
     fn as_c(&self) -> u8 {
         u8::from(*self)
-    }
-}
-
-/// Puts for each entry of the session's log whether it stays into `room` if they fit, and the number of the entries into `count`.
-pub fn put_needed(alloc: Global, session: &Session, room: &mut [u8], count: &mut usize) -> u32
-    requires { count.old ≡ 0 }
-    ensures { NeedsIn session.now.log room.old room.new count.new result }
-{
-    match needed(alloc, session.entries()) {
-        Ok(choices) => put_each(choices.as_slice(), room, count).number(),
-        Err(_) => Status::NoMemory.number(),
     }
 }

@@ -2,15 +2,13 @@
 
 ghost use Rattle.std.specs.Prelude.{◌≡◌, slice_get};
 ghost use Rattle.pgp_c.specs.Each.{IsGiven};
-ghost use Rattle.pgp_c.specs.Pools.{are_slots, group_at, groups_of, kind_of, given_part, part_with, pg_num_of, given_place, given_parts, pool_at, pool_of, pool_sizes_of, temp_of};
+ghost use Rattle.pgp_c.specs.Pools.{are_slots, groups_of, kind_of, given_part, part_with, pg_num_of, given_place, given_parts, pool_of, pool_sizes_of, temp_of};
 
 use super::ask::group_of;
 use super::each::{OfC, each_of};
 use super::locate::pool_of;
 use super::status::Status;
-use pgp_ids::{
-    MAX_PARTS, OsdId, Part, Parts, PgId, Place, PoolId, PoolKind, PoolSizes, PoolSpec, TempList,
-};
+use pgp_ids::{MAX_PARTS, OsdId, Part, Parts, Place, PoolKind, PoolSizes, PoolSpec, TempList};
 use std::alloc::Global;
 
 /// Stands for no device.
@@ -82,7 +80,7 @@ impl OfC<PgpPool> for PoolSpec {
 
     fn of_c(alloc: Global, given: &PgpPool) -> Result<PoolSpec, Status> {
         Ok(PoolSpec {
-            id: pool_at(given.id)?,
+            id: pool_of(given.id).ok_or(Status::BadArgument)?,
             pg_num: pg_num_of(given.pg_num)?,
             kind: kind_of(alloc, given)?,
             size: given.size,
@@ -90,13 +88,6 @@ impl OfC<PgpPool> for PoolSpec {
             leaf: given.leaf,
         })
     }
-}
-
-/// The pool of this number.
-fn pool_at(number: u32) -> Result<PoolId, Status>
-    ensures { IsGiven result (pool_at number) }
-{
-    pool_of(number).ok_or(Status::BadArgument)
 }
 
 /// How many groups a pool has.
@@ -199,7 +190,7 @@ impl OfC<PgpPoolSizes> for PoolSizes {
 
     fn of_c(_alloc: Global, given: &PgpPoolSizes) -> Result<PoolSizes, Status> {
         Ok(PoolSizes {
-            pool: pool_at(given.pool)?,
+            pool: pool_of(given.pool).ok_or(Status::BadArgument)?,
             size: given.size,
             min_size: given.min_size,
         })
@@ -210,20 +201,13 @@ impl OfC<PgpTemp> for TempList {
     ghost of_c = { temp_of };
 
     fn of_c(alloc: Global, given: &PgpTemp) -> Result<TempList, Status> {
-        let pg = group_at(given.pool, given.pg)?;
+        let pg = group_of(given.pool, given.pg).ok_or(Status::BadArgument)?;
         if given.length > ROOM {
             return Err(Status::BadArgument);
         }
         let osds = each_of(alloc, &given.osds[..usize::from(given.length)])?;
         Ok(TempList { pg, osds })
     }
-}
-
-/// The group of these numbers.
-fn group_at(pool: u32, pg: u32) -> Result<PgId, Status>
-    ensures { IsGiven result (group_at pool pg) }
-{
-    group_of(pool, pg).ok_or(Status::BadArgument)
 }
 
 impl OfC<u16> for Place {

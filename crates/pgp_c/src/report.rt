@@ -8,7 +8,7 @@ ghost use Rattle.pgp_c.specs.Report.{IsReport, SubmitsReport, change_of, is_log_
 use super::ask::group_of;
 use super::info::{member_of, version_of};
 use super::status::Status;
-use super::submit::submit;
+use super::submit::tell;
 use pgp_core::Session;
 use pgp_ids::{Change, Entry, Epoch, LogEntry, ObjectName, Report, Seq};
 use std::alloc::{AllocError, Global};
@@ -56,7 +56,7 @@ pub fn submit_entries(
     ensures { SubmitsReport session.old session.new report.now log.now result }
 {
     match report_of(alloc, report, log) {
-        Ok(Some(report)) => submit(session, Entry::Entries(report)),
+        Ok(Some(report)) => tell(session, Entry::Entries(report)),
         Ok(None) => Status::BadArgument.number(),
         Err(_) => Status::NoMemory.number(),
     }

@@ -14,7 +14,6 @@ use super::open_lines::open_lines;
 use super::room::put_out;
 use super::session::PgpSession;
 use super::status::Status;
-use super::work::work;
 use pgp_lines::Format;
 use std::alloc::Global;
 
@@ -132,9 +131,15 @@ pub extern "C" fn pgp_work(
     let Some(mut opened) = session.take(alloc) else {
         return Status::NotOpen.number();
     };
-    let status = work(&mut opened, max, left);
+    let worked = opened.work(max);
     session.put(opened);
-    status
+    match worked {
+        Ok(steps) => {
+            *left = steps;
+            Status::Done.number()
+        }
+        Err(_) => Status::NoMemory.number(),
+    }
 }
 
 /// The version of the library as one number: 10,000 times its first part, plus 100 times its second, plus its third.

@@ -1,21 +1,11 @@
 //! An entry that C tells in values.
 
-ghost use Rattle.std.specs.Prelude.{◌≡◌, None};
-ghost use Rattle.pgp_group.specs.Entries.{inc_of};
-ghost use Rattle.pgp_c.specs.Submit.{SubmitsEntry, TellsEntry};
+ghost use Rattle.pgp_c.specs.Submit.{TellsEntry};
 
 use super::status::Status;
 use pgp_core::Session;
 use pgp_ids::Entry;
 use pgp_text::{LineRefusal, Reply};
-
-/// Adds an entry other than an incremental to the session's log, as [`tell`] does.
-pub fn submit(session: &mut Session, entry: Entry) -> u32
-    requires { inc_of entry ≡ None }
-    ensures { SubmitsEntry session.old session.new entry result }
-{
-    tell(session, entry)
-}
 
 /// Adds an entry to the session's log. If the log refuses it, the status is the number of the refusal.
 pub fn tell(session: &mut Session, entry: Entry) -> u32

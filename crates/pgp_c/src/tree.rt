@@ -1,12 +1,12 @@
 //! The placement tree of a map incremental, as C gives it.
 
 ghost use Rattle.pgp_c.specs.Each.{IsGiven};
-ghost use Rattle.pgp_lines.specs.MadeBucket.{bucket_from as made_bucket};
 ghost use Rattle.pgp_c.specs.Tree.{alg_numbered, given_bucket, item_of, weight_of, weights_of};
 
 use super::each::{OfC, each_of};
 use super::status::Status;
 use pgp_ids::{BucketAlg, BucketSpec, Seq};
+use pgp_lines::bucket_of;
 use std::alloc::Global;
 
 const LEAST_ITEM: i32 = -65536;
@@ -60,7 +60,7 @@ impl<'a> OfC<PgpBucket<'a>> for BucketSpec {
         let alg = alg_of(given.alg)?;
         let items = each_of(alloc, given.items)?;
         let weights = weights_of(alloc, alg, given.items)?;
-        made_bucket(given.id, given.kind, alg, items, weights)
+        bucket_of(given.id, given.kind, alg, items, weights).ok_or(Status::BadArgument)
     }
 }
 
@@ -84,30 +84,4 @@ fn weights_of(alloc: Global, alg: BucketAlg, items: &[PgpItem]) -> Result<Seq<u3
         BucketAlg::Uniform => Ok(Seq::new(alloc)),
         BucketAlg::List | BucketAlg::Straw2 => each_of(alloc, items),
     }
-}
-
-/// The bucket of these parts, where its id is one of a bucket and it has as many weights as it needs.
-fn made_bucket(
-    id: i32,
-    kind: u8,
-    alg: BucketAlg,
-    items: Seq<i32>,
-    weights: Seq<u32>,
-) -> Result<BucketSpec, Status>
-    ensures { IsGiven result (made_bucket id kind alg items weights) }
-{
-    let wanted = match alg {
-        BucketAlg::Uniform => 0,
-        BucketAlg::List | BucketAlg::Straw2 => items.len(),
-    };
-    if id < LEAST_ITEM || id >= 0 || weights.len() != wanted {
-        return Err(Status::BadArgument);
-    }
-    Ok(BucketSpec {
-        id,
-        kind,
-        alg,
-        items,
-        weights,
-    })
 }

@@ -2,14 +2,10 @@
 
 ghost use Rattle.std.specs.Prelude.{◌≡◌};
 ghost use Rattle.pgp_group.specs.Touched.{view_at};
-ghost use Rattle.pgp_c.specs.Ask.{AsksIn};
-ghost use Rattle.pgp_c.specs.View.{best_osd, best_slot, verdict_number, pgp_view};
+ghost use Rattle.pgp_c.specs.View.{verdict_number, pgp_view};
 
-use super::ask::ask;
 use super::place::{device_number, sixteen};
-use super::status::Status;
-use pgp_core::Session;
-use pgp_ids::{Epoch, Member, Verdict, View};
+use pgp_ids::{Epoch, Verdict, View};
 
 /// What a log says of a placement group, with how long its lists are. A place without a device, one behind the end of its list, a
 /// list without a primary, and a group without a best member have 65535.
@@ -48,24 +44,8 @@ pub struct PgpView {
     pub acting: [u16; 16],
 }
 
-/// Puts into `place` what the session says of a group.
-pub fn put_view(session: &mut Session, pool: u32, pg: u32, place: &mut PgpView) -> u32
-    ensures same { session.new ≡ session.old }
-    ensures view { AsksIn session.old.log pool pg place.old place.new result }
-{
-    let count = session.entries().len();
-    let epoch = session.epoch();
-    match ask(session, pool, pg) {
-        Ok(view) => {
-            *place = view_of(view, count, epoch);
-            Status::Done.number()
-        }
-        Err(status) => status,
-    }
-}
-
 /// The view at this count and epoch, as C reads it.
-fn view_of(view: &View, count: usize, epoch: Epoch) -> PgpView
+pub fn view_of(view: &View, count: usize, epoch: Epoch) -> PgpView
     ensures { result ≡ pgp_view (view_at count epoch view.now) }
 {
     PgpView {
@@ -80,32 +60,12 @@ fn view_of(view: &View, count: usize, epoch: Epoch) -> PgpView
         verdict: verdict_number(view.verdict),
         up_primary: device_number(view.up_primary),
         acting_primary: device_number(view.acting_primary),
-        best_osd: best_osd(view.best),
-        best_slot: best_slot(view.best),
+        best_osd: device_number(view.best.map(|best| best.osd)),
+        best_slot: view.best.map_or(0, |best| best.slot),
         up_length: view.up.len() as u8,
         acting_length: view.acting.len() as u8,
         up: sixteen(&view.up),
         acting: sixteen(&view.acting),
-    }
-}
-
-/// The device of the best member.
-fn best_osd(best: Option<Member>) -> u16
-    ensures { result ≡ best_osd best }
-{
-    match best {
-        Some(member) => member.osd.number(),
-        None => device_number(None),
-    }
-}
-
-/// The slot of the best member.
-fn best_slot(best: Option<Member>) -> u8
-    ensures { result ≡ best_slot best }
-{
-    match best {
-        Some(member) => member.slot,
-        None => 0,
     }
 }
 
