@@ -3,6 +3,8 @@ use Rattle.std.specs.Prelude.{◌≡◌, ◌⊎◌, ℕ, Option, Some, None}
 use Rattle.pgp_ids.specs.declared.entry.Entry.{Entry}
 use Rattle.pgp_ids.specs.declared.entry.Entry.TheVariants as entry
 use Rattle.pgp_ids.specs.Refusal.{refusal_number}
+use Rattle.pgp_group.specs.Entries.{inc_of}
+use Rattle.pgp_log.specs.Fits.{fits}
 use Rattle.pgp_lines.specs.declared.command.Command.TheVariants.{Submit}
 use Rattle.pgp_text.specs.declared.reply.Reply.{Reply}
 use Rattle.pgp_text.specs.declared.reply.Reply.TheVariants.{Accepted, Asked, Located, Traced, Refused}
@@ -28,9 +30,11 @@ pub record IsEntryTold (was now : LogAndAnswer) (new : Entry) (status : ℕ) : T
   pub log : now.log ≡ log_then was.log (Submit new)
   pub status_is : status ≡ reply_status (reply_in was.log (Submit new))
 
--- there was no memory for the entry, which is one that the log takes, or an incremental at which its map may lack it
+-- there was no memory for the entry, which is one that the log takes, or an incremental at which its map may lack it: so any other
+-- entry is one that the log takes
 pub record IsLackingMemory (was now : LogAndAnswer) (new : Entry) (status : ℕ) : Type 0 where
   pub may : MayFindNone was.log (Submit new)
+  pub takes : inc_of new ≡ None → fits was.log new ≡ None
   pub log : now.log ≡ was.log
   pub status_is : status ≡ status_number NoMemory
 

@@ -66,6 +66,7 @@ impl Courses {
         match self.find(&pg) {
             Some(place) => {
                 let course = &mut self.all[place];
+                // The group is known to have begun to serve in this epoch.
                 course.les = course.les.max(les);
                 Ok(())
             }

@@ -3,7 +3,7 @@
 ghost use Rattle.std.specs.Prelude.{◌≡◌, ◌≢◌, ◌≤◌, ◌+◌, ◌++◌, ◌∷◌, [], Bool, List, length, take, option_copied, option_map, vec_len, vec_capacity, true, false, IsOk, IfOk, IfErr, OnOk, OnErr};
 ghost use Rattle.pgp_ids.specs.declared.entry.Entry.{Entry as AnyEntry};
 ghost use Rattle.pgp_group.specs.Touched.{view_at};
-ghost use Rattle.pgp_lines.specs.Command.{IsInRange};
+ghost use Rattle.pgp_lines.specs.Command.{HasFewEpochs};
 ghost use Rattle.pgp_lines.specs.declared.command.Command.TheVariants.{Ask, Locate, Submit};
 ghost use Rattle.pgp_lines.specs.LineFault.{line_fault_of};
 ghost use Rattle.pgp_text.specs.Reply.{reply_text};
@@ -144,7 +144,7 @@ fn answer_command<A: Answerer>(
     answerer: &mut A,
     text: &mut Vec<u8>,
 ) -> Result<(), NoReply>
-    requires { IsInRange command }
+    requires { HasFewEpochs command }
     ensures ok { OnOk result (PutsReply A.alone (A.log answerer.old) (A.log answerer.new) command text.old.items text.new.items) }
     ensures lacks { IfErr result (LacksReply A.alone command) }
     ensures text { OnErr result (text.new.items ≡ text.old.items) }

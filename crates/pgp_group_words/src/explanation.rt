@@ -12,6 +12,7 @@ use std::alloc::{AllocError, Global};
 #[derive(Drop)]
 pub struct Explanation {
     pub pg: PgId,
+    /// Its pool, by the last map.
     pub pool: PoolSpec,
     pub view: View,
     pub reasons: Reasons,

@@ -9,7 +9,7 @@ use Rattle.pgp_lines.specs.LineFault.{LineFault, no_op, bad_field, ◌>>=◌}
 use Rattle.pgp_lines.specs.Shapes.{is_between, items_in, each_in, required, unknown_key_in}
 use Rattle.pgp_lines.specs.Trace.{code_in, epoch_state_in, epochs_in}
 use Rattle.pgp_lines.specs.Format.{format_of, read_in, judged}
-use Rattle.pgp_lines.specs.Command.{values_of, known, command_in, IsInRange}
+use Rattle.pgp_lines.specs.Command.{values_of, known, command_in, HasFewEpochs}
 use Rattle.pgp_lines.specs.Op.{op_in, op_keys}
 use Rattle.pgp_lines.specs.declared.command.Command.{Command}
 use Rattle.pgp_lines.specs.declared.command.format.Format.{Format}
@@ -39,21 +39,21 @@ epochs_sized : (nulls : Bool) (at : Option Data) → IfOk (ok_or (option_and_the
 epochs_sized nulls None = tt
 epochs_sized nulls (Some d) = let sized = list_sized 1 4096 (epoch_state_in nulls) (items_in d) in grind arith
 
-values_ok : (named : Op) (last : Format) (format : Option Format) (d : Data) → IfOk (values_of named last format d) IsInRange
+values_ok : (named : Op) (last : Format) (format : Option Format) (d : Data) → IfOk (values_of named last format d) HasFewEpochs
 values_ok op.Trace last format d =
-    past IsInRange (required (codes "code") (code_in (read_in last format)) d) _
-    (λ code. from_ok IsInRange (λ epochs. length epochs ≤ 4096) (required (codes "epochs") (epochs_in (is_kind_by_place code)) d) _ (epochs_sized (is_kind_by_place code) (get (codes "epochs") d))
-    (λ epochs sized. past IsInRange (judged format) _ (λ known. sized)))
+    past HasFewEpochs (required (codes "code") (code_in (read_in last format)) d) _
+    (λ code. from_ok HasFewEpochs (λ epochs. length epochs ≤ 4096) (required (codes "epochs") (epochs_in (is_kind_by_place code)) d) _ (epochs_sized (is_kind_by_place code) (get (codes "epochs") d))
+    (λ epochs sized. past HasFewEpochs (judged format) _ (λ known. sized)))
 values_ok _ last format d = search past
 
-known_ok : (key : Option (List ℕ)) (read : Result Command LineFault) → IfOk read IsInRange → IfOk (known key read) IsInRange
+known_ok : (key : Option (List ℕ)) (read : Result Command LineFault) → IfOk read HasFewEpochs → IfOk (known key read) HasFewEpochs
 known_ok (Some key) read ok = tt
 known_ok None read ok = ok
 
 -- a command of a line is in range
-pub in_range : (last : Format) (d : Data) (command : Command) → command_in last d ≡ Ok command → IsInRange command
+pub in_range : (last : Format) (d : Data) (command : Command) → command_in last d ≡ Ok command → HasFewEpochs command
 in_range last d command is =
     let read : Op → Result Command LineFault = λ named. values_of named last (format_of last d) d in
-    let ranged : IfOk (command_in last d) IsInRange =
-    past IsInRange (ok_or (op_in d) no_op) _ (λ named. known_ok (unknown_key_in (op_keys (read_in last (format_of last d)) named) d) (read named) (values_ok named last (format_of last d) d)) in
+    let ranged : IfOk (command_in last d) HasFewEpochs =
+    past HasFewEpochs (ok_or (op_in d) no_op) _ (λ named. known_ok (unknown_key_in (op_keys (read_in last (format_of last d)) named) d) (read named) (values_ok named last (format_of last d) d)) in
     rw is at ranged

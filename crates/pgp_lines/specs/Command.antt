@@ -70,7 +70,7 @@ command_of last bytes = do
   d ← ok_or (data_of bytes) not_json
   command_in last d
 
--- of each command what the next layer needs to know of its line: how many epochs a trace has at most
-abbrev pub IsInRange : Command → Type 0
-IsInRange (Trace code epochs) = length epochs ≤ 4096
-IsInRange _ = Unit {0}
+-- the epochs of a trace are at most 4,096
+abbrev pub HasFewEpochs : Command → Type 0
+HasFewEpochs (Trace code epochs) = length epochs ≤ 4096
+HasFewEpochs _ = Unit {0}

@@ -4,7 +4,7 @@ ghost use Rattle.std.specs.Str.{is_utf8};
 ghost use Rattle.pgp_lines.specs.Value.{view};
 ghost use Rattle.serde_json.specs.Read.{read};
 ghost use Rattle.pgp_lines.specs.LineFault.{line_fault_of, not_json, IsRead};
-ghost use Rattle.pgp_lines.specs.Command.{command_in, data_of, command_of, IsInRange};
+ghost use Rattle.pgp_lines.specs.Command.{command_in, data_of, command_of, HasFewEpochs};
 ghost use Rattle.pgp_lines.specs.Op.{op_in};
 
 mod buckets;
@@ -70,7 +70,7 @@ pub fn read_line(alloc: Global, line: &[u8]) -> Result<Command, TextFault>
     ensures err { IfErr result (λ fault. IfSome (line_fault_of fault) (λ f. command_of Format.Two line.now ≡ Err f)) }
     // Bytes that are no text are found out without memory.
     ensures memory { result ≡ Err TextFault.Memory → is_utf8 line.now ≡ true }
-    ensures in_range { IfOk result IsInRange }
+    ensures epochs { IfOk result HasFewEpochs }
 {
     LineReader::new(alloc, Format::Two).read(alloc, line)
 }
@@ -112,7 +112,7 @@ impl LineReader {
         ensures err { IfErr result
             (λ fault. IfSome (line_fault_of fault) (λ f. command_of self.old.format line.now ≡ Err f)) }
         ensures memory { result ≡ Err TextFault.Memory → is_utf8 line.now ≡ true }
-        ensures in_range { IfOk result IsInRange }
+        ensures epochs { IfOk result HasFewEpochs }
         ensures kept { self.new.format ≡ self.old.format }
     {
         let command = read_within(alloc, &self.arena, line, self.format, &mut self.room, None);
@@ -159,7 +159,7 @@ fn read_within<'a>(
 ) -> Result<Command, TextFault>
     ensures read { IsRead result (command_of last line.now) }
     ensures memory { result ≡ Err TextFault.Memory → is_utf8 line.now ≡ true }
-    ensures in_range { IfOk result IsInRange }
+    ensures epochs { IfOk result HasFewEpochs }
 {
     let tokens = read_json(arena, line, room)?;
     read_command(alloc, &Value::of(&tokens, place), last)

@@ -46,14 +46,17 @@ impl Bell {
             .park_timeout(rt, rings, Duration::from_micros(micros));
     }
 
-    /// Wakes those who sleep, once for all that is rung until one of them listens again; or all, also from a nap.
-    pub fn ring(&self, all: bool) {
-        if all
-            || self.is_heard.load(Ordering::SeqCst) && self.is_heard.swap(false, Ordering::SeqCst)
-        {
-            let _before = self.rings.fetch_add(1, Ordering::SeqCst);
-            self.rings.wake_all();
+    /// Wakes those who sleep, once for all that is rung until one of them listens again.
+    pub fn ring(&self) {
+        if self.is_heard.load(Ordering::SeqCst) && self.is_heard.swap(false, Ordering::SeqCst) {
+            self.ring_out();
         }
+    }
+
+    /// Wakes all, also from a nap.
+    pub fn ring_out(&self) {
+        let _before = self.rings.fetch_add(1, Ordering::SeqCst);
+        self.rings.wake_all();
     }
 }
 

@@ -113,6 +113,7 @@ impl<J: Naming> Engine<J> {
         ensures new { IfOk result (λ made. All IsNew made.1.items) }
         ensures err { IfErr result (λ fault. fault ≡ Memory) }
     {
+        // Without an entry nothing is published, and so nothing waits.
         let (engine, clients, _) = Engine::over(rt, alloc, feed, taps, shards, workers, &[])?;
         Ok((engine, clients))
     }

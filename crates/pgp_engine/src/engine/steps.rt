@@ -46,10 +46,18 @@ impl<J: Naming> Engine<J> {
         let submitted = turn.submit_with_epoch(rt, entry);
         MutexGuard::unlock(turn);
         if submitted.is_ok() {
-            // Who naps needn't know that the log is longer, unless it was closed: then workers end.
-            self.bell.ring(closes);
+            self.tell_workers(closes);
         }
         submitted
+    }
+
+    /// The log is longer. Who naps needn't know, unless it was closed: then workers end.
+    fn tell_workers(&self, closes: bool) {
+        if closes {
+            self.bell.ring_out();
+        } else {
+            self.bell.ring();
+        }
     }
 
     /// The receipt of the whole log, as it was at some moment of the call.
@@ -112,10 +120,10 @@ impl<J: Naming> Engine<J> {
             shards: _,
             workers: _,
         } = self;
-        intake.into_inner().give_up(rt);
+        intake.into_inner().into_feed().give_up(rt);
     }
 
-    /// The same as the process ends: what the shards keep goes with the process, and not entry by entry.
+    /// The same as the process ends: what the shards and the feed's last copy keep goes with the process, and not entry by entry.
     pub fn give_up_at_exit(self, rt: &impl Wait) {
         let Engine {
             intake,
@@ -124,6 +132,6 @@ impl<J: Naming> Engine<J> {
             workers: _,
         } = self;
         forget(shards);
-        intake.into_inner().give_up(rt);
+        intake.into_inner().into_feed().give_up_at_exit(rt);
     }
 }

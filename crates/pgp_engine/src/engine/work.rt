@@ -18,8 +18,9 @@ use std::sync::{MutexGuard, Wait};
 /// time, since an incremental goes over all groups of the shard.
 const ENTRIES_A_TURN: usize = 64;
 
-/// How many groups a shard works out at most in one turn of a worker. So few that whoever asks has the lock soon. Where it doesn't
-/// keep its groups yet, the first turn makes all of them first, from all that it has read.
+/// How many groups a shard works out at most in one turn of a worker. So few that whoever asks has the lock soon, but some, since a
+/// turn goes over the rows of all its groups. Where it doesn't keep its groups yet, the first turn makes all of them first, from all
+/// that it has read.
 const GROUPS_A_TURN: usize = 8;
 
 /// After how many rounds without an entry a lull begins.
@@ -216,7 +217,7 @@ impl<J: Naming> Engine<J> {
     }
 
     /// One turn of each shard of the seat, from the last to the first: whoever asks about all groups in their order goes the other
-    /// way, and so mostly asks another shard.
+    /// way, and so mostly asks another shard than the one that works them out. To read in that order does no harm.
     fn round<R: Wait, G: Gate>(
         &self,
         rt: &R,
@@ -255,7 +256,7 @@ impl<J: Naming> Engine<J> {
         let locked = &self.shards[shard];
         let turn = match task {
             Task::Read { waits: true } => Some(locked.await_turn_to_work(rt)),
-            _ => locked.turn_to_work(),
+            Task::Read { waits: false } | Task::Renew => locked.turn_to_work(),
         };
         let Some(turn) = turn else {
             return Ok(Round::passed_over());

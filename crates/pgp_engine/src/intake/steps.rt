@@ -101,8 +101,8 @@ impl<J: Naming> Intake<J> {
         Ok(SubmitAnswer { at, epoch })
     }
 
-    /// Ends the feed. Its taps find no copy from then on.
-    pub(crate) fn give_up(self, rt: &impl Wait) {
+    /// Its feed, to be ended.
+    pub(crate) fn into_feed(self) -> Feed {
         let Intake {
             alloc: _,
             feed,
@@ -111,6 +111,6 @@ impl<J: Naming> Intake<J> {
             buffer: _,
             of: _,
         } = self;
-        feed.give_up(rt);
+        feed
     }
 }

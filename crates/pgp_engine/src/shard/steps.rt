@@ -124,6 +124,7 @@ impl<J: Naming> Shard<J> {
     pub(crate) fn renew(&mut self, max: usize) -> Result<usize, AskFault>
         ensures same { StaysThere self.old self.new }
         ensures marks { OnOk result (AreUnmarked max (state_of self.old) (state_of self.new)) }
+        ensures left { IfOk result (λ left. IfSome self.new.marks (λ marks. left ≡ length marks)) }
         ensures memory { IfErr result (λ fault. fault ≡ Memory) }
         ensures wants { OnErr result (HasInc self.new.front) }
     {

@@ -13,8 +13,8 @@ use super::{Feed, LogWriter};
 use crate::law::Number;
 use crate::receipt::Receipt;
 use crate::rule::Sees;
-use crate::store::Operation;
-use core::mem::replace_with;
+use crate::store::{Operation, Store};
+use core::mem::{forget, replace_with};
 use logbook::Pen;
 use pgp_ids::Entry;
 use std::sync::{Arc, Wait};
@@ -120,6 +120,16 @@ impl Feed {
 
     /// Ends the feed. Its taps find no copy from then on.
     pub fn give_up(self, rt: &impl Wait) {
+        let _last = self.take(rt);
+    }
+
+    /// The same as the process ends: the last copy goes with the process, and not entry by entry.
+    pub fn give_up_at_exit(self, rt: &impl Wait) {
+        forget(self.take(rt));
+    }
+
+    // Ends the feed, and gives the copy that was shown.
+    fn take(self, rt: &impl Wait) -> Box<Store> {
         let Self {
             word: _,
             turns: _,
@@ -128,6 +138,6 @@ impl Feed {
             writer,
             warm: _,
         } = self;
-        writer.take(rt);
+        writer.take(rt)
     }
 }

@@ -22,6 +22,7 @@ pub fn straw2_trees()
 
 /// No other version has them, and version 3 is read on request alone.
 pub fn straw2_in_other_versions()
+    ensures without_v { command_of Three (root_line [] straw2_bucket) ≡ Err (bad_field (codes "crush")) }
     ensures version_1 { command_of Three (root_line (codes "\"v\":1,") straw2_bucket) ≡ Err (bad_field (codes "crush")) }
     ensures version_2 { command_of Three (root_line (codes "\"v\":2,") straw2_bucket) ≡ Err (bad_field (codes "crush")) }
     ensures not_read { command_of Two (root_line (codes "\"v\":3,") straw2_bucket) ≡ Err (bad_field (codes "crush")) }
@@ -56,6 +57,7 @@ pub fn no_epoch_of_a_map()
 
 /// No other version has that key. A line whose version isn't read has the keys of the last that is.
 pub fn after_in_other_versions()
+    ensures without_v { command_of Three (inc_with (codes "\"after\":0")) ≡ Err (unknown_key (codes "after")) }
     ensures version_1 { command_of Three (inc_with (codes "\"v\":1,\"after\":0")) ≡ Err (unknown_key (codes "after")) }
     ensures version_2 { command_of Three (inc_with (codes "\"v\":2,\"after\":0")) ≡ Err (unknown_key (codes "after")) }
     ensures version_4 { command_of Three (inc_with (codes "\"v\":4,\"after\":0")) ≡ Err (bad_field (codes "v")) }

@@ -95,6 +95,7 @@ pub fn no_version()
     ensures after_an_absent_key { command_of Two (codes "{\"op\":\"locate\",\"name\":\"a\",\"v\":3}") ≡ Err (bad_field (codes "pool")) }
     ensures after_up_thru { command_of Two (inc_with (codes "\"v\":3,\"up_thru\":0")) ≡ Err (bad_field (codes "up_thru")) }
     ensures before_weight { command_of Two (inc_with (codes "\"v\":3,\"weight\":0")) ≡ Err (bad_field (codes "v")) }
+    ensures weight { command_of Two (inc_with (codes "\"v\":2,\"weight\":0")) ≡ Err (bad_field (codes "weight")) }
     ensures grouped_pool { command_of Two (pool_line (codes "\"v\":3,") (grouped_with (codes "[[[0],1]]"))) ≡ Err (bad_field (codes "v")) }
     ensures bad_parts { command_of Two (pool_line (codes "\"v\":3,") (grouped_with (codes "[[[16],1]]"))) ≡ Err (bad_field (codes "pools")) }
     ensures grouped_code { command_of Two (trace_with (codes "\"v\":0,") (codes "{\"kind\":\"grouped\",\"groups\":[[[0],1]]}"))
