@@ -1,7 +1,7 @@
 #!/usr/bin/env python3
 """Measures the engine as a daemon has it that links the library: maps and questions at a steady pace, without workers and with.
 
-    bench/measure_engine.py [--seconds N] [--shards S] [--workers W,W..] [--runs R] [--load PATH]
+    bench/measure_engine.py [--seconds N] [--shards S] [--workers W,W..] [--asked G] [--runs R] [--load PATH]
 
 engine_load is a program over pgp_engine, whose files end in .txt, since the gate takes a source only in its crates. Where
 bench/out/engine_load isn't there, or is older than a source, it is built first: in a copy of the crates with that one beside them,
@@ -9,8 +9,8 @@ by `rt run`, which takes over what was proved on this machine. PATH is one that 
 
 Its engine of S shards (4) has a map of 16,384 groups of three copies in 16 pools on 256 devices, and each group has been asked
 about. Then, for N seconds (10), one thread submits an incremental each millisecond, as those of churn_wide: it takes a device down
-or boots one, and has six up_thru values. Another thread asks about some group each millisecond, now sooner and now later after the
-incremental. It runs R times (3) with each number of workers (0,1,4), by turns, the first of which the others are compared with.
+or boots one, and has six up_thru values. Another thread asks each millisecond about some group, of all or of G, now sooner and now
+later after the incremental. It runs R times (3) with each number of workers (0,1,4), by turns, the first of which the others are compared with.
 
 Prints a table in Markdown, each figure the median of the runs: how many incrementals came in a second, the seconds of the processor
 that the process took meanwhile, the threads' sleep and waking included, and in the second after, and the microseconds of a question
@@ -94,8 +94,8 @@ def incrementals(rng, count):
         yield compact({"op": "inc", "epoch": epoch, **fall_or_boot(rng, up, down), "up_thru": told(rng, up, 6, epoch)})
 
 
-def load(count):
-    """Gives the lines of the program: a map, a question about each group, and what is measured."""
+def load(count, asked):
+    """Gives the lines of the program: a map, a question about each group, and what is measured, with questions about so many groups."""
     rng = random.Random(count)
     pools = [copies(pool, GROUPS) for pool in POOLS]
     yield compact({"op": "inc", "epoch": 1, "up": list(range(DEVICES)), "pools": pools, "crush": tree(8, 4, 8)})
@@ -103,7 +103,7 @@ def load(count):
     yield from questions
     yield ""
     yield from incrementals(rng, count)
-    yield from rng.choices(questions, k=count)
+    yield from rng.choices(questions[:asked], k=count)
 
 
 def measure(program, shards, workers, lines, count):
@@ -131,7 +131,7 @@ def row(workers, run, first):
 def main(options):
     program = options.load or (str(BUILT) if is_fresh() else build())
     count = round(options.seconds * PACE)
-    lines = "".join(f"{line}\n" for line in load(count)).encode()
+    lines = "".join(f"{line}\n" for line in load(count, options.asked)).encode()
     found = {workers: [] for workers in options.workers}
     for _ in range(options.runs):
         for workers, runs in found.items():
@@ -150,6 +150,7 @@ if __name__ == "__main__":
     parser.add_argument("--seconds", type=float, default=10, metavar="N")
     parser.add_argument("--shards", type=int, default=4, metavar="S")
     parser.add_argument("--workers", type=numbers, default=[0, 1, 4], metavar="W,W..")
+    parser.add_argument("--asked", type=int, default=len(POOLS) * GROUPS, metavar="G")
     parser.add_argument("--runs", type=int, default=3, metavar="R")
     parser.add_argument("--load", type=os.path.abspath, metavar="PATH")
     main(parser.parse_args())

@@ -5,9 +5,10 @@ use crate::entry_buffer::EntryBuffer;
 use crate::follower::Follower;
 use crate::naming::Naming;
 use pgp_feed::{Receipt, Tap};
-use pgp_ids::Entry;
+use pgp_ids::{Entry, PgId};
 use pgp_shard::ShardState;
 use std::alloc::AllocError;
+use std::collections::VecDeque;
 use std::marker::{Model, PhantomData};
 use std::sync::Arc;
 
@@ -22,6 +23,8 @@ pub struct Shard<J: Naming> {
     tap: Tap,
     /// Where the next entries are read to.
     buffer: EntryBuffer,
+    /// The groups that were asked about last: a few, each once, and each until a worker works it out anew.
+    asked: VecDeque<PgId>,
     of: PhantomData<J>,
 }
 
@@ -34,6 +37,7 @@ impl<J: Naming> Drop for Shard<J> {
             front: _,
             tap: _,
             buffer: _,
+            asked: _,
             of: _,
         } = self;
     }

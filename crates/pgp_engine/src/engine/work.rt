@@ -94,13 +94,14 @@ fn end_in<J: Naming>(front: Receipt, closed: bool) -> Option<Receipt>
     if closed { Some(front) } else { None }
 }
 
-/// Has a shard read on.
+/// Has a shard read on, and work out the groups that were asked about lately.
 fn read_on<J: Naming>(shard: &mut Shard<J>) -> Result<Round, AskFault>
     ensures round { IfOk result (IsRound J.feed) }
     ensures err { IfErr result (λ fault. fault_at fault ≡ None) }
 {
     let read = shard.receipt().len();
     let front = shard.read_some(ENTRIES_A_TURN)?;
+    shard.renew_asked()?;
     Ok(Round {
         most: front.len().saturating_sub(read),
         is_whole: true,
@@ -130,11 +131,14 @@ impl<J: Naming> Engine<J> {
     /// read the Close, and answers the receipt of the closed log. There is none where no shard is of this seat. `Memory` and
     /// `NoReader` end the work, and leave the shards as far as they have read.
     ///
+    /// While entries come, a shard works out those few groups that it was asked about last, each once for a question, and in a lull
+    /// all of its groups.
+    ///
     /// In each round every shard of the seat reads the next entries, as many as a turn may, in a turn of its own between the gate's
     /// two calls. One that somebody has locked is passed over, until that was so in a thousand rounds in a row. Where there were
     /// fewer entries, the worker naps: so entries that come one after the other are read many at a time. After a few rounds in a row
     /// without an entry it is a lull: until the next submit the shards work out their groups, and once none is left, the worker
-    /// sleeps. So while entries come, nobody works out a group but who asks about it.
+    /// sleeps.
     pub fn work<R: Wait, G: Gate>(
         &self,
         rt: &R,

@@ -24,7 +24,11 @@ use pgp_feed::{ReadFault, Receipt, Tap};
 use pgp_ids::{AskRefusal, Epoch, PgId, View};
 use pgp_shard::ShardState;
 use std::alloc::Global;
+use std::collections::VecDeque;
 use std::marker::PhantomData;
+
+/// Of how many groups a shard notes that they were asked about. A worker works out no more of them in one turn.
+const NOTED_GROUPS: usize = 8;
 
 /// The front with the next `max` entries after those that were read, or with all that there are.
 fn after(newest: &Receipt, read: usize, max: usize) -> Receipt
@@ -56,6 +60,7 @@ impl<J: Naming> Shard<J> {
             front,
             tap,
             buffer: EntryBuffer::new(alloc),
+            asked: VecDeque::new(alloc),
             of: PhantomData,
         }
     }
@@ -131,6 +136,39 @@ impl<J: Naming> Shard<J> {
         Ok(self.state.renew(max)?)
     }
 
+    /// Works out anew those of the groups that were asked about last which an entry touched since. Until the next question such a
+    /// group counts as asked about no longer.
+    pub(crate) fn renew_asked(&mut self) -> Result<(), AskFault>
+        ensures same { StaysThere self.old self.new }
+        ensures memory { IfErr result (λ fault. fault ≡ Memory) }
+        ensures wants { OnErr result (HasInc self.new.front) }
+    {
+        for _ in 0..self.asked.len() {
+            let Some(pg) = self.asked.pop_front() else {
+                break;
+            };
+            if !self.serves(&pg) || self.state.view_of(&pg).is_some() {
+                let _kept = self.asked.push_back(pg);
+            } else if self.state.work_out(&pg) == Err(AskRefusal::Memory) {
+                return Err(AskFault::Memory);
+            }
+        }
+        Ok(())
+    }
+
+    /// Notes that the group was asked about. Without memory it doesn't.
+    fn note(&mut self, pg: PgId)
+        ensures { self.new ≡ self.old }
+    {
+        if self.asked.contains(&pg) {
+            return;
+        }
+        if self.asked.len() >= NOTED_GROUPS {
+            let _oldest = self.asked.pop_front();
+        }
+        let _noted = self.asked.push_back(pg);
+    }
+
     /// Its number.
     pub(crate) fn number(&self) -> usize
         ensures { result ≡ self.now.shard }
@@ -180,6 +218,7 @@ impl<J: Naming> Shard<J> {
         ensures wants { result ≡ Err ReadFault.Memory → HadToRead self.old self.new q.now ⊎ HasInc self.new.front }
         ensures wants_there { result ≡ Err ReadFault.Memory → LacksThere self.old self.new pg.now q.now }
     {
+        self.note(*pg);
         let newest = self.tap.newest();
         let target = newest.longer(q);
         self.absorb_to(&target)?;

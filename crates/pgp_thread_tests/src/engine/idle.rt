@@ -1,6 +1,6 @@
-//! That a worker works out all groups of its shards in a lull, until it sleeps or something is submitted, which a gate tells by
-//! counting its turns, those of a shard that it passed over among them; and that it ends once all shards have read the Close, where
-//! one of them is ahead of the other.
+//! That a worker works out all groups of its shards in a lull, until it sleeps or something is submitted, and before that what was
+//! asked about, which a gate tells by counting its turns, those of a shard that it passed over among them; and that it ends once all
+//! shards have read the Close, where one of them is ahead of the other.
 ghost use Rattle.std.specs.Prelude.{◌<◌};
 ghost use Rattle.pgp_thread_tests.specs.declared.engine.opened.TheConstants.{SHARDS};
 
@@ -45,9 +45,8 @@ const GROUPS: usize = 128;
 /// More entries than a worker's turn reads.
 const INFOS: usize = 100;
 
-/// One worker serves both shards, of which the first has worked out all of its groups before. Once it has taken so many turns,
-/// though nothing is submitted after the map, the log is closed, while the worker is held if that is asked for. No turn is left
-/// then but those in which both read the Close.
+/// One worker serves both shards, of which the first has worked out all of its groups before, and nothing is submitted after the
+/// map.
 pub fn work_out<J: Naming + Send + Sync, R: Host>(
     rt: &R,
     desk: &Desk<J>,
@@ -58,6 +57,30 @@ pub fn work_out<J: Naming + Send + Sync, R: Host>(
     for _ in 0..2 {
         is_count(rt, desk.read_on(rt, 0, GROUPS), 1);
     }
+    serve_until(rt, desk, turns, is_held);
+}
+
+/// The same where the second shard has left as many groups as a turn works out, and one more was asked about and then touched. The
+/// worker works that one out as it reads what touched it, so that one turn is enough for the others.
+pub fn work_out_asked<J: Naming + Send + Sync, R: Host>(rt: &R, desk: &Desk<J>) {
+    desk.put(rt, MANY_GROUPS);
+    for _ in 0..2 {
+        is_count(rt, desk.read_on(rt, 0, GROUPS), 1);
+        is_count(rt, desk.read_on(rt, 1, GROUPS - A_TURN), 1);
+    }
+    is_count(rt, desk.ask(rt), 1);
+    desk.put(rt, EMPTY_0);
+    serve_until(rt, desk, BEGUN, false);
+}
+
+/// Once the worker has taken so many turns, the log is closed, while the worker is held if that is asked for. No turn is left then
+/// but those in which both shards read the Close.
+fn serve_until<J: Naming + Send + Sync, R: Host>(
+    rt: &R,
+    desk: &Desk<J>,
+    turns: usize,
+    is_held: bool,
+) {
     let gate = HoldingGate::new(*rt, 0, if is_held { turns } else { 0 });
     let (end, closed) = join(
         rt,
@@ -121,6 +144,11 @@ fn a_worker_works_out_all_groups_before_it_sleeps(rt: HostRuntime) {
             is_held: false,
         },
     );
+}
+
+#[test]
+fn a_worker_works_out_what_was_asked_about_as_entries_come(rt: HostRuntime) {
+    tried(&rt, &Trial::WorksOutAsked);
 }
 
 #[test]

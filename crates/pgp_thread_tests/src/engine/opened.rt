@@ -8,7 +8,7 @@ use crate::engine::asked::ask_beside;
 use crate::engine::clients::outlive;
 use crate::engine::desk::Desk;
 use crate::engine::growths::call_again;
-use crate::engine::idle::{come_back, end_last, work_out};
+use crate::engine::idle::{come_back, end_last, work_out, work_out_asked};
 use crate::engine::submits::{fill_and_close, submit_many_times};
 use crate::engine::workers::{Beside, work_beside};
 use pgp_engine::{Engine, MakeFault, Naming};
@@ -37,6 +37,7 @@ pub enum Trial {
     EachCallAgain,
     Works(Beside),
     WorksOut { turns: usize, is_held: bool },
+    WorksOutAsked,
     ComesBack,
     /// One of two shards of one worker has read all before the worker begins.
     FirstAhead,
@@ -72,6 +73,7 @@ fn over<J: Naming + Send + Sync, R: Host>(
     let workers = match trial {
         Trial::Works(Beside::FirstHeld) => SHARDS + 1,
         Trial::WorksOut { .. }
+        | Trial::WorksOutAsked
         | Trial::ComesBack
         | Trial::FirstAhead
         | Trial::SecondAhead
@@ -86,6 +88,7 @@ fn over<J: Naming + Send + Sync, R: Host>(
         Trial::EachCallAgain => call_again(rt, &desk, clients),
         Trial::Works(beside) => work_beside(rt, beside, &desk, clients),
         Trial::WorksOut { turns, is_held } => work_out(rt, &desk, *turns, *is_held),
+        Trial::WorksOutAsked => work_out_asked(rt, &desk),
         Trial::ComesBack => come_back(rt, &desk),
         Trial::FirstAhead => end_last(rt, &desk, 0),
         Trial::SecondAhead => end_last(rt, &desk, 1),
