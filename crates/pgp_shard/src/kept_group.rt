@@ -118,32 +118,13 @@ impl KeptGroup {
         ensures wants { OnErr result (IsTouchedBy inc.now before.now after.now self.old) }
         ensures pg { self.new.pg ≡ self.old.pg }
     {
-        if !self.may_move(before, after, inc) {
-            self.mark(inc);
+        if self.may_move(before, after, inc) {
+            self.move_on(before, after, inc)?;
+        } else if self.is_marked() || !self.is_touched(inc) {
             return Ok(());
         }
-        self.move_on(before, after, inc)?;
         self.view = None;
         Ok(())
-    }
-
-    /// Forgets the view, where the incremental touches the group. Whether it does depends on the raw set, the pg_temp list, and
-    /// what `Group::names`. A group that is marked is left as it is.
-    fn mark(&mut self, inc: &Incremental)
-        ensures kept { (log : List AnyEntry) (before : AnyBefore) (after : AnyMap) → IsStep log inc.now before after
-            → may_move (incs_of log) inc.now self.old.pg ≡ false
-            → IsKeptOf log self.old → IsKeptOf (log ++ entry.Inc inc.now ∷ []) self.new }
-        ensures view { (before : AnyBefore) (after : AnyMap) → KeepsView inc.now before after self.old self.new }
-        ensures marked { lacks_view self.old ≡ true → lacks_view self.new ≡ true }
-        ensures stays { lacks_view self.new ≡ false → self.new.view ≡ self.old.view }
-        ensures pg { self.new.pg ≡ self.old.pg }
-    {
-        if self.is_marked() {
-            return;
-        }
-        if self.is_touched(inc) {
-            self.view = None;
-        }
     }
 
     /// Takes an incremental that may move the group, all but the view, which is to be forgotten.
