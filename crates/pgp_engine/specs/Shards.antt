@@ -29,12 +29,11 @@ state_of s = record { front = s.front; shard = s.shard; shards = s.shards; marks
 abbrev pub Serves : Reader → PgId → Type 0
 Serves s pg = is_own s.shard s.shards pg ≡ true
 
--- what a shard keeps: its receipt names the entries that it has read, which its tap has given; and its number is that of its state
-pub record IsReader (feed : Book) (state : Shard) (stored last : Receipt) (number : ℕ) : Type 0 where
+-- what a shard keeps: its receipt names the entries that it has read, which its tap has given
+pub record IsReader (feed : Book) (state : Shard) (stored last : Receipt) : Type 0 where
   pub named : Names feed state.front stored
   pub last_is : feed_of last ≡ feed
   pub seen : IsFrontOf state.front (entries_of last)
-  pub number_is : number ≡ state.shard
 
 -- it is the same shard still, and has read and seen no less
 pub record GoesOn (old new : Reader) : Type 0 where

@@ -17,7 +17,6 @@ mod steps;
 /// It reads one front of the log after another, and answers for its own groups by the front that it has read. Its receipt
 /// names that front.
 pub struct Shard<J: Naming> {
-    number: usize,
     state: ShardState,
     front: Receipt,
     tap: Tap,
@@ -32,7 +31,6 @@ pub struct Shard<J: Naming> {
 impl<J: Naming> Drop for Shard<J> {
     fn drop(self) {
         let Shard {
-            number: _,
             state: _,
             front: _,
             tap: _,
@@ -59,7 +57,7 @@ impl<J: Naming> Model for Shard<J> {
       seen = entries_of (last_of s.tap);
     } };
 
-    ghost invariant = { λ s. IsReader J.feed s.state s.front (last_of s.tap) s.number };
+    ghost invariant = { λ s. IsReader J.feed s.state s.front (last_of s.tap) };
 }
 
 impl Follower for ShardState {

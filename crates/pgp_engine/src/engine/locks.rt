@@ -34,27 +34,8 @@ pub(super) fn intake_turn<'a, J: Naming, R: Wait>(
     unreachable!()
 }
 
-/// A turn of the lock of the shard of this number. The shards stand in the order of their numbers, so the first turn is that
-/// shard's.
-pub(super) fn turn_of<'a, J: Naming, R: Wait>(
-    rt: &R,
-    shards: &'a [LockedShard<J>],
-    number: usize,
-) -> MutexGuard<'a, Shard<J>>
-    requires { number < length shards.now }
-    ensures { (mutex_guard_value result).shard ≡ number }
-{
-    let shard = &shards[number];
-    for _ in rt.forever() {
-        let turn = shard.turn_to_ask(rt);
-        if turn.number() == number {
-            return turn;
-        }
-    }
-    unreachable!()
-}
-
-/// A turn of the lock of the shard that answers for the group: the first turn is that shard's too.
+/// A turn of the lock of the shard that answers for the group. The shards stand in the order of their numbers, so the first turn is
+/// that shard's.
 pub(super) fn shard_turn<'a, J: Naming, R: Wait>(
     rt: &R,
     shards: &'a [LockedShard<J>],

@@ -9,7 +9,7 @@ ghost use Rattle.pgp_engine.specs.Intakes.{IsSubmitted, MayFailToSubmit};
 ghost use Rattle.pgp_engine.specs.Shown.{IsShown};
 
 use super::Engine;
-use super::locks::{intake_turn, shard_turn, turn_of};
+use super::locks::{intake_turn, shard_turn};
 use crate::answer::{Answer, SubmitAnswer};
 use crate::fault::{AskFault, SubmitFault};
 use crate::naming::Naming;
@@ -109,7 +109,7 @@ impl<J: Naming> Engine<J> {
         ensures named { IfOk result (λ r. feed_of r ≡ J.feed) }
         ensures err { IfErr result (λ fault. fault_at fault ≡ None) }
     {
-        turn_of(rt, self.shards.as_slice(), shard).absorb_some(max)
+        self.shards[shard].turn_to_ask(rt).absorb_some(max)
     }
 
     /// Ends the engine and its feed.

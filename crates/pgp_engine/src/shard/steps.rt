@@ -55,7 +55,6 @@ impl<J: Naming> Shard<J> {
         let mut tap = tap;
         let front = tap.newest().front(0);
         Shard {
-            number: shard,
             state: ShardState::start(alloc, shard, shards),
             front,
             tap,
@@ -167,13 +166,6 @@ impl<J: Naming> Shard<J> {
             let _oldest = self.asked.pop_front();
         }
         let _noted = self.asked.push_back(pg);
-    }
-
-    /// Its number.
-    pub(crate) fn number(&self) -> usize
-        ensures { result ≡ self.now.shard }
-    {
-        self.number
     }
 
     /// The log that it has read was closed.

@@ -16,5 +16,4 @@ invariant_of-result g c =
       named = record { of_feed = c.front-front.ensures.feed ∙ of; entries = c.front-front.ensures.entries ∙ sym none };
       last_is = ap feed_of (sym c.newest.ensures.last) ∙ of;
       seen = subst (λ (l : List Entry). IsFrontOf l (entries_of last)) (sym none) (front_none (entries_of last));
-      number_is = sym (ap (λ (s : Shard). s.shard) c.start.ensures);
     }
