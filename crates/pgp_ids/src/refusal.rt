@@ -2,51 +2,69 @@ ghost use Rattle.std.specs.Prelude.{◌≡◌};
 ghost use Rattle.pgp_ids.specs.Refusal.{refusal_number, refusal_name, refusal_tree};
 
 use std::alloc::AllocError;
-use std::error::Error;
-use std::fmt;
+use thiserror::Error;
 
 /// Why an entry isn't taken. Which comes first where several hold: `Closed`, then those of a map incremental
 /// (`EpochGap` to `TreeFault`) or of a report (`UnknownGroup` to `BadVersion`), then `LogFull`, then `Memory`; within
 /// these in the order in which they stand here.
-#[derive(Clone, Copy, Debug, PartialEq, Eq)]
+#[derive(Clone, Copy, Debug, PartialEq, Eq, Error)]
 pub enum Refusal {
     /// The incremental changes a map of another epoch, or leads to no later one.
+    #[error("the epoch does not follow that of the map")]
     EpochGap,
     /// A device, pool or group is named twice where it may be named once.
+    #[error("a device, pool or group is named twice")]
     Twice,
     /// A device is named that neither exists nor boots.
+    #[error("unknown device")]
     UnknownDevice,
     /// A device boots that is up.
+    #[error("the device is already up")]
     AlreadyUp,
     /// A device is taken down that is down.
+    #[error("the device is already down")]
     AlreadyDown,
     /// A device is destroyed or given up for lost that is up.
+    #[error("the device is still up")]
     StillUp,
     /// A device's up_thru would fall.
+    #[error("up_thru goes back")]
     UpThruBack,
     /// An epoch lies ahead of the incremental's.
+    #[error("an epoch is ahead of the map")]
     Ahead,
     /// A pool's numbers are out of range, or the pool isn't one whose sizes can change so.
+    #[error("bad pool")]
     BadPool,
     /// A pool is made that exists.
+    #[error("the pool is already known")]
     PoolKnown,
     /// A pg_temp list is none that its group can have.
+    #[error("bad pg_temp")]
     BadTemp,
     /// The placement tree has this fault, 1 to 7.
+    #[error("the placement tree has a fault")]
     TreeFault(u8),
     /// The log has as many entries as it takes.
+    #[error("the log is full")]
     LogFull,
     /// There was no memory.
+    #[error("out of memory")]
     Memory,
     /// The map has no such group.
+    #[error("unknown placement group")]
     UnknownGroup,
     /// The group can't have such a member.
+    #[error("unknown member")]
     UnknownMember,
     /// A report is from an epoch that isn't there yet.
+    #[error("the stamp is ahead of the map")]
     FutureStamp,
     /// A report's versions or epochs don't go together.
+    #[error("bad version")]
     BadVersion,
     /// The log was closed.
+    #[error("the log is closed")]
     Closed,
 }
 
@@ -105,31 +123,6 @@ impl Refusal {
         }
     }
 
-    /// What it says to a person.
-    fn text(self) -> &'static str {
-        match self {
-            Refusal::EpochGap => "the epoch does not follow that of the map",
-            Refusal::Twice => "a device, pool or group is named twice",
-            Refusal::UnknownDevice => "unknown device",
-            Refusal::AlreadyUp => "the device is already up",
-            Refusal::AlreadyDown => "the device is already down",
-            Refusal::StillUp => "the device is still up",
-            Refusal::UpThruBack => "up_thru goes back",
-            Refusal::Ahead => "an epoch is ahead of the map",
-            Refusal::BadPool => "bad pool",
-            Refusal::PoolKnown => "the pool is already known",
-            Refusal::BadTemp => "bad pg_temp",
-            Refusal::TreeFault(_) => "the placement tree has a fault",
-            Refusal::LogFull => "the log is full",
-            Refusal::Memory => "out of memory",
-            Refusal::UnknownGroup => "unknown placement group",
-            Refusal::UnknownMember => "unknown member",
-            Refusal::FutureStamp => "the stamp is ahead of the map",
-            Refusal::BadVersion => "bad version",
-            Refusal::Closed => "the log is closed",
-        }
-    }
-
     /// The number of the tree's fault, where that is the refusal.
     pub fn tree(self) -> Option<u8>
         ensures { result ≡ refusal_tree self }
@@ -140,14 +133,6 @@ impl Refusal {
         }
     }
 }
-
-impl fmt::Display for Refusal {
-    fn fmt<W: fmt::Write>(&self, f: &mut fmt::Formatter<W>) -> fmt::Result {
-        f.write_str(self.text())
-    }
-}
-
-impl Error for Refusal {}
 
 impl From<AllocError> for Refusal {
     ghost use Rattle.pgp_ids.specs.declared.refusal.Refusal.TheVariants.{Memory};
