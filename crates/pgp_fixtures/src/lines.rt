@@ -22,5 +22,8 @@ pub fn entry_surely(alloc: Global, line: &str) -> Option<Entry> {
 
 /// The incremental that the line is.
 pub fn incremental(alloc: Global, line: &str) -> Option<Incremental> {
-    entry(alloc, line)?.into_incremental()
+    match entry(alloc, line)? {
+        Entry::Inc(inc) => Some(inc),
+        _ => None,
+    }
 }

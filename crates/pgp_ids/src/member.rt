@@ -1,6 +1,3 @@
-ghost use Rattle.std.specs.Prelude.{◌≡◌};
-ghost use Rattle.pgp_ids.specs.Member.{is_before};
-
 use super::osd::OsdId;
 
 /// A member of a placement group: a device in a slot. Ordered by device and then by slot.
@@ -12,13 +9,4 @@ pub struct Member {
     pub osd: OsdId,
     /// 0 to 15.
     pub slot: u8,
-}
-
-impl Member {
-    /// Whether the member stands before the other in lists of members.
-    pub fn is_before(self, other: Member) -> bool
-        ensures { result ≡ is_before self other }
-    {
-        self < other
-    }
 }
