@@ -45,10 +45,7 @@ impl Epoch {
     pub fn next(self) -> Option<Self>
         ensures { SomeIff result (self + 1 < 2 ^ 32) (self + 1) }
     {
-        match self.number.checked_add(1) {
-            Some(number) => Some(Epoch { number }),
-            None => None,
-        }
+        self.number.checked_add(1).map(Epoch::new)
     }
 }
 

@@ -90,7 +90,12 @@ impl Osds {
     pub fn first(&self) -> Option<OsdId>
         ensures { result ≡ first_osd self.now }
     {
-        first_of(self.places.as_slice())
+        for place in self.as_slice() {
+            if let Some(osd) = place.osd() {
+                return Some(osd);
+            }
+        }
+        None
     }
 
     /// How many places hold a device.
@@ -103,15 +108,4 @@ impl Osds {
             .filter(|place| place.osd().is_some())
             .count()
     }
-}
-
-fn first_of(places: &[Place]) -> Option<OsdId>
-    ensures { result ≡ first_osd places.now }
-{
-    for place in places {
-        if let Some(osd) = place.osd() {
-            return Some(osd);
-        }
-    }
-    None
 }
