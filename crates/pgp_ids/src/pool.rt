@@ -1,7 +1,7 @@
 ghost use Rattle.std.specs.Prelude.{◌≡◌};
 ghost use Rattle.pgp_ids.specs.Pool.{is_kind_by_place};
 
-use super::parts::Parts;
+use super::part::Parts;
 use super::pool_id::PoolId;
 
 /// How a pool keeps its objects.

@@ -1,7 +1,7 @@
 use Rattle.std.proofs.Common.{◌≡◌, drop}
 use Rattle.std.specs.List.{list_all}
 use Rattle.pgp_ids.specs.Parts.{parts_of, is_apart}
-use Rattle.pgp_ids.proofs.parts.is_apart_from_all.Given as goal
+use Rattle.pgp_ids.proofs.part.is_apart_from_all.Given as goal
 
 abbrev pub invariant-loop-group : goal.invariant-loop-group
 invariant-loop-group l =
