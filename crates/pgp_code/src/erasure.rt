@@ -1,5 +1,5 @@
 ghost use Rattle.pgp_code.specs.Enough.{enough_shards, enough_shards-mono, enough_shards-nil};
-ghost use Rattle.std.specs.Prelude.{◌≡◌, ◌≤◌, ◌↔◌, max, true, IsSome, IfSome};
+ghost use Rattle.std.specs.Prelude.{◌≡◌, ◌≤◌, max, true};
 
 use super::recoverable::Recoverable;
 use pgp_ids::SlotSet;
@@ -12,14 +12,6 @@ pub struct Erasure {
 }
 
 impl Erasure {
-    /// The code of `k` data shards, where that is at least 1.
-    pub fn new(k: u8) -> Option<Self>
-        ensures variant { IsSome result ↔ (1 ≤ k) }
-        ensures value { IfSome result (λ code. code.k ≡ k) }
-    {
-        if k >= 1 { Some(Erasure { k }) } else { None }
-    }
-
     /// The code of `k` data shards, or of one where `k` is 0.
     pub fn with_shards(k: u8) -> Self
         ensures { result.k ≡ max k 1 }

@@ -1,7 +1,7 @@
-ghost use Rattle.pgp_code.specs.Parts.{enough_of_part, enough_parts, want_slots, enough_parts-mono, enough_parts-nil};
+ghost use Rattle.pgp_code.specs.Parts.{enough_parts, want_slots, enough_parts-mono, enough_parts-nil};
 ghost use Rattle.pgp_ids.specs.Parts.{parts_of};
-ghost use Rattle.std.specs.List.{list_any, list_all};
-ghost use Rattle.std.specs.Prelude.{◌≡◌, ◌↔◌, true, is_some, nat_le, IsSome, IfSome};
+ghost use Rattle.std.specs.List.{list_all};
+ghost use Rattle.std.specs.Prelude.{◌≡◌, ◌↔◌, true, nat_le, IsSome, IfSome};
 
 use super::recoverable::Recoverable;
 use pgp_ids::{Part, Parts, SlotSet};
@@ -20,18 +20,14 @@ impl Grouped {
         ensures variant { IsSome result ↔ (want_slots groups ≡ true) }
         ensures value { IfSome result (λ code. code.groups ≡ groups) }
     {
-        if has_part(groups.places()) && each_wants_a_slot(groups.places()) {
+        let places = groups.places();
+        let has_part = places.iter().any(|place| place.is_some());
+        if has_part && each_wants_a_slot(places) {
             Some(Grouped { groups })
         } else {
             None
         }
     }
-}
-
-fn has_part(groups: &[Option<Part>]) -> bool
-    ensures { result ≡ list_any is_some groups.now }
-{
-    groups.iter().any(|group| group.is_some())
 }
 
 fn each_wants_a_slot(groups: &[Option<Part>]) -> bool
@@ -40,26 +36,6 @@ fn each_wants_a_slot(groups: &[Option<Part>]) -> bool
     for group in groups {
         if let Some(part) = group
             && part.least < 1
-        {
-            return false;
-        }
-    }
-    true
-}
-
-/// Whether at least the least number of the part's slots is there.
-fn is_enough_of(part: &Part, have: SlotSet) -> bool
-    ensures { result ≡ enough_of_part have part.now }
-{
-    part.slots.common(have).count() >= u32::from(part.least)
-}
-
-fn is_enough(groups: &[Option<Part>], have: SlotSet) -> bool
-    ensures { result ≡ enough_parts groups.now have }
-{
-    for group in groups {
-        if let Some(part) = group
-            && !is_enough_of(part, have)
         {
             return false;
         }
@@ -77,7 +53,14 @@ impl Recoverable for Grouped {
     ghost empty_is_short = { λ code. enough_parts-nil code.groups code.wanted };
 
     fn enough(&self, have: SlotSet) -> bool {
-        is_enough(self.groups.places(), have)
+        for group in self.groups.places() {
+            if let Some(part) = group
+                && part.slots.common(have).count() < u32::from(part.least)
+            {
+                return false;
+            }
+        }
+        true
     }
 
     fn by_place(&self) -> bool {
