@@ -45,7 +45,8 @@ impl Epoch {
     pub fn next(self) -> Option<Self>
         ensures { SomeIff result (self + 1 < 2 ^ 32) (self + 1) }
     {
-        self.number.checked_add(1).map(Epoch::new)
+        let number = self.number.checked_add(1)?;
+        Some(Epoch { number })
     }
 }
 

@@ -48,13 +48,6 @@ impl Part {
             && self.least >= 1
             && u32::from(self.least) <= self.slots.count()
     }
-
-    /// Whether no slot is in both parts.
-    pub fn is_apart(&self, other: &Part) -> bool
-        ensures { result ≡ is_apart self.now other.now }
-    {
-        self.slots.common(other.slots).count() == 0
-    }
 }
 
 /// How many parts a grouped code has at most.
@@ -117,12 +110,13 @@ fn are_fit(groups: &[Option<Part>], size: u8) -> bool
     true
 }
 
+/// Whether no slot of the part is in one of the others.
 fn is_apart_from_all(part: &Part, others: &[Option<Part>]) -> bool
     ensures { result ≡ list_all (is_apart part.now) (parts_of others.now) }
 {
     for group in others {
         if let Some(other) = group
-            && !part.is_apart(other)
+            && part.slots.common(other.slots).count() != 0
         {
             return false;
         }
