@@ -4,8 +4,8 @@ ghost use Rattle.std.specs.Prelude.{◌≡◌, ◌-◌, [], length, map, nat_eq,
 ghost use Rattle.std.specs.Ordering.{nat_cmp};
 ghost use Rattle.pgp_missing.specs.Last.{put_in};
 ghost use Rattle.pgp_missing.specs.Log.{number_of, between, has_version, is_rising_from};
-ghost use Rattle.pgp_missing.specs.Missing.{by_object, missing_above};
-ghost use Rattle.pgp_missing.specs.Kept.{numbered, named};
+ghost use Rattle.pgp_missing.specs.Missing.{missing_above};
+ghost use Rattle.pgp_missing.specs.Kept.{numbered};
 
 use pgp_ids::{Change, Epoch, LogEntry, MissingObject, ObjectName, Seq, Version};
 use std::alloc::{AllocError, Global};
@@ -134,7 +134,7 @@ impl Entries {
 
     /// The objects that a copy with the writes up to the first number lacks, by the entries up to the last one, in ascending
     /// order of their names.
-    #[tactic(auto, using(crate::proofs::EntryLemmas::missing_laws))]
+    #[tactic(auto, using(crate::proofs::EntryLemmas::missing_laws, crate::proofs::EntryLemmas::newest_laws))]
     pub(crate) fn missing_above(
         &self,
         alloc: Global,
@@ -142,28 +142,6 @@ impl Entries {
         last: u32,
     ) -> Result<Seq<MissingObject>, AllocError>
         ensures { IfOk result (λ objects. objects ≡ missing_above above (between above last self.now)) }
-    {
-        let modified = self
-            .newest(alloc, above, last)?
-            .into_iter()
-            .filter(|(_, newest)| matches!(newest.change, Change::Modify))
-            .map(|(object, newest)| MissingObject {
-                object,
-                version: newest.version,
-            })
-            .collect(alloc)?;
-        Ok(Seq::from_vec(modified))
-    }
-
-    /// What the last entry of each object says, of those between these numbers.
-    #[tactic(auto, using(crate::proofs::EntryLemmas::newest_laws))]
-    fn newest(
-        &self,
-        alloc: Global,
-        above: u32,
-        last: u32,
-    ) -> Result<BTreeMap<ObjectName, Newest>, AllocError>
-        ensures { IfOk result (λ newest. map named newest.entries ≡ by_object (between above last self.now)) }
     {
         let mut newest = BTreeMap::new(alloc);
         for (number, write) in self.between(above, last) {
@@ -174,6 +152,14 @@ impl Entries {
             let change = write.change;
             newest.insert(write.object.clone()?, Newest { version, change })?;
         }
-        Ok(newest)
+        let modified = newest
+            .into_iter()
+            .filter(|(_, newest)| matches!(newest.change, Change::Modify))
+            .map(|(object, newest)| MissingObject {
+                object,
+                version: newest.version,
+            })
+            .collect(alloc)?;
+        Ok(Seq::from_vec(modified))
     }
 }
