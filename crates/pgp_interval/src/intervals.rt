@@ -5,11 +5,10 @@ ghost use Rattle.pgp_interval.specs.IntervalsOf.{IsIntervalsOf};
 ghost use Rattle.pgp_ids.specs.Past.{raised_at};
 ghost use Rattle.pgp_interval.specs.Runs.{past_intervals, current_first};
 
-use super::members::is_same;
-use super::past::past_of;
+use super::acting::may_have_gone_rw;
 use super::raise::place_to_raise;
 use pgp_code::Recoverable;
-use pgp_ids::{Epoch, EpochState, Membership, Past, PrimaryFacts};
+use pgp_ids::{Epoch, Membership, Past, PrimaryFacts};
 use std::alloc::{AllocError, Global};
 use std::marker::Model;
 use std::mem;
@@ -92,14 +91,16 @@ impl<R: Recoverable> Intervals<R> {
             → IsIntervalsOf R.enough R.by_place (grown h passed members facts) cleans self.new) }
         ensures err { OnErr result (self.new ≡ self.old) }
     {
-        if !is_same(&self.current, &members) {
+        if self.current != members {
             self.past.reserve(1)?;
-            let ended = EpochState {
-                members: mem::replace(&mut self.current, members),
-                facts,
-            };
-            let past = past_of(&self.code, self.first, epoch.before(), ended, self.clean);
-            self.past.push_reserved(past);
+            let members = mem::replace(&mut self.current, members);
+            let rw = may_have_gone_rw(&self.code, &members, facts, self.first, self.clean);
+            self.past.push_reserved(Past {
+                first: self.first,
+                last: epoch.before(),
+                members,
+                rw,
+            });
             self.first = epoch;
             self.clean = false;
         }

@@ -9,10 +9,7 @@
 mod acting;
 mod intervals;
 pub mod laws;
-mod members;
-mod past;
 mod raise;
-mod read_write;
 
 pub use acting::acting_slots;
 pub use intervals::Intervals;

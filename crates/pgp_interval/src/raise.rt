@@ -4,7 +4,7 @@ ghost use Rattle.pgp_interval.specs.InOrder.{AreInOrder, holds_epoch};
 ghost use Rattle.pgp_ids.specs.Past.{raised_at};
 ghost use Rattle.pgp_interval.specs.Raised.{raised};
 
-use super::read_write::can_write;
+use super::acting::can_write;
 use pgp_code::Recoverable;
 use pgp_ids::{Epoch, Past};
 
