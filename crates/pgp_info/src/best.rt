@@ -91,12 +91,7 @@ impl<P: Prefer> Best<P> {
         ensures value { option_copied result ≡ find (λ info. is_same_member info.member member.now) self.now.infos }
         ensures heard { is_some result ≡ has_member member.now self.now.infos }
     {
-        for info in self.infos.as_slice() {
-            if info.member == *member {
-                return Some(info);
-            }
-        }
-        None
+        self.infos.iter().find(|info| info.member == *member)
     }
 
     /// Forgets the member's info, where there is one.

@@ -5,7 +5,7 @@ ghost use Rattle.std.specs.Option.{option_copied};
 ghost use Rattle.pgp_ids.specs.declared.report.Info.{Info};
 ghost use Rattle.pgp_info.specs.Best.{HasDistinctMembers, last_start};
 ghost use Rattle.pgp_info.specs.Heard.{without};
-ghost use Rattle.pgp_info.specs.Lead.{has_served_since, is_ahead, best_beside, stays_without, IsLead};
+ghost use Rattle.pgp_info.specs.Lead.{is_ahead, stays_without, IsLead};
 
 use super::prefer::Prefer;
 use pgp_ids::{Epoch, Info, Member};
@@ -46,7 +46,18 @@ impl Lead {
         ensures { (infos : List Info) → HasDistinctMembers (infos ++ info.now ∷ [])
             → IsLead (P.better prefer.now) infos self → IsLead (P.better prefer.now) (infos ++ info.now ∷ []) result }
     {
-        self.since(start_named_by(info)).beside(prefer, info)
+        let rivals = self.since(start_named_by(info));
+        if info.complete
+            && rivals.start <= info.les
+            && is_ahead(prefer, info, rivals.best.as_ref())
+        {
+            Lead {
+                best: Some(*info),
+                ..rivals
+            }
+        } else {
+            rivals
+        }
     }
 
     /// What is left of it where the group began to serve in this epoch too: a later start leaves all others behind.
@@ -58,20 +69,6 @@ impl Lead {
             Lead {
                 start: told,
                 best: None,
-            }
-        } else {
-            self
-        }
-    }
-
-    /// What becomes of it beside an info that tells of no later start.
-    fn beside<P: Prefer>(self, prefer: &P, info: &Info) -> Self
-        ensures { result ≡ record self { best = best_beside (P.better prefer.now) self.start info.now self.best } }
-    {
-        if served_since(info, self.start) && is_ahead(prefer, info, self.best.as_ref()) {
-            Lead {
-                start: self.start,
-                best: Some(*info),
             }
         } else {
             self
@@ -117,13 +114,6 @@ fn is_ahead<P: Prefer>(prefer: &P, info: &Info, best: Option<&Info>) -> bool
         Some(best) => prefer.better(info, best),
         None => true,
     }
-}
-
-/// Whether the copy is complete and served in this epoch or later.
-fn served_since(info: &Info, start: Epoch) -> bool
-    ensures { result ≡ has_served_since start info.now }
-{
-    info.complete && start <= info.les
 }
 
 /// The last epoch in which the group began to serve, as far as the infos tell.

@@ -10,14 +10,9 @@
 mod best;
 pub mod laws;
 mod lead;
-mod newest_first;
-mod oldest_first;
 mod prefer;
 mod preference;
-mod tie;
 
 pub use best::Best;
-pub use newest_first::NewestFirst;
-pub use oldest_first::OldestFirst;
 pub use prefer::Prefer;
-pub use preference::Preference;
+pub use preference::{NewestFirst, OldestFirst, Preference};
