@@ -10,7 +10,7 @@ use Rattle.pgp_ids.specs.declared.past.Past.{Past}
 use Rattle.pgp_lists.specs.Ordered.{ascending}
 use Rattle.pgp_lists.proofs.Members.{any-contains, none-contains}
 use Rattle.pgp_sets.specs.declared.status.Status.{Status}
-use Rattle.pgp_prior.specs.declared.change.Change.{Change}
+use Rattle.pgp_prior.specs.declared.judged_interval.Change.{Change}
 use Rattle.pgp_prior.specs.declared.index.PriorIndex.{PriorIndex}
 use Rattle.pgp_prior.specs.declared.judged_interval.JudgedInterval.{JudgedInterval}
 use Rattle.pgp_prior.specs.declared.prior_set.Prior.{Prior}

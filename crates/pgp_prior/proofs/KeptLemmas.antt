@@ -6,8 +6,8 @@ use Rattle.pgp_ids.specs.SlotSet.{IsSlotSet, is_within}
 use Rattle.pgp_ids.specs.declared.member.Member.{Member}
 use Rattle.pgp_ids.specs.declared.past.Past.{Past}
 use Rattle.pgp_sets.specs.declared.status.Status.{Status}
-use Rattle.pgp_prior.specs.declared.change.Change.{Change}
-use Rattle.pgp_prior.specs.declared.change.Change.TheVariants as change
+use Rattle.pgp_prior.specs.declared.judged_interval.Change.{Change}
+use Rattle.pgp_prior.specs.declared.judged_interval.Change.TheVariants as change
 use Rattle.pgp_prior.specs.declared.judged_interval.JudgedInterval.{JudgedInterval}
 use Rattle.pgp_prior.specs.declared.statuses.KnownStatus.{KnownStatus}
 use Rattle.pgp_prior.specs.declared.statuses.Statuses.{Statuses}

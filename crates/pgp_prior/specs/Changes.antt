@@ -4,8 +4,8 @@ use Rattle.pgp_ids.specs.declared.member.Member.{Member}
 use Rattle.pgp_ids.specs.declared.past.Past.{Past}
 use Rattle.pgp_sets.specs.declared.status.Status.{Status}
 use Rattle.pgp_sets.specs.declared.status.Status.TheVariants.{Up, Gone, Lost, Down}
-use Rattle.pgp_prior.specs.declared.change.Change.{Change}
-use Rattle.pgp_prior.specs.declared.change.Change.TheVariants as change
+use Rattle.pgp_prior.specs.declared.judged_interval.Change.{Change}
+use Rattle.pgp_prior.specs.declared.judged_interval.Change.TheVariants as change
 use Rattle.pgp_prior.specs.Better.{is_no_worse}
 use Rattle.pgp_prior.specs.Members.{members_of}
 

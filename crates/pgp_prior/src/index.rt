@@ -6,12 +6,11 @@ ghost use Rattle.pgp_prior.specs.JudgedInterval.{AgreeOnMembers};
 ghost use Rattle.pgp_prior.specs.IndexOf.{Basis, IsIndexOf, prior_by, is_down_by};
 ghost use Rattle.pgp_ids.specs.Past.{raised_at};
 
-use super::change::Change;
-use super::index_lists::{blocked_by, probe};
-use super::judged_interval::JudgedInterval;
+use super::additions::{add_down, add_members, add_up};
+use super::blocking::matters;
+use super::judged_interval::{Change, JudgedInterval};
 use super::places::add_interval;
 use super::prior_set::Prior;
-use super::renewal::{raise_at, renew_at, set_les_of};
 use pgp_code::Recoverable;
 use pgp_ids::{Epoch, Membership, OsdId, Past, Seq};
 use pgp_sets::StatusOf;
@@ -99,7 +98,10 @@ impl<R: Recoverable> PriorIndex<R> {
             → IsIndexOf R.enough R.by_place (record b { les = les }) self.new }
     {
         self.les = les;
-        set_les_of(self.past.as_mut_slice(), les);
+        let past = self.past.as_mut_slice();
+        for kept in past.iter_mut() {
+            kept.set_les(les);
+        }
     }
 
     /// Marks the past interval at this place as one that may have gone read-write. It judges that interval anew, and no
@@ -109,8 +111,9 @@ impl<R: Recoverable> PriorIndex<R> {
         ensures { (b : Basis R) → IsIndexOf R.enough R.by_place b self.old
             → IsIndexOf R.enough R.by_place (record b { past = raised_at place b.past }) self.new }
     {
-        let past = self.past.as_mut_slice();
-        raise_at(past, place, &self.code, self.les);
+        if place < self.past.len() {
+            self.past[place].raise(&self.code, self.les);
+        }
     }
 
     /// The prior set. It judges no interval anew, and takes memory for the two lists of the answer alone. The error is that
@@ -120,12 +123,22 @@ impl<R: Recoverable> PriorIndex<R> {
             → found ≡ prior_by R.enough R.by_place b) }
     {
         let by_place = self.code.by_place();
-        let past = self.past.as_slice();
-        let probe = probe(self.alloc, by_place, self.les, past, &self.current)?;
-        let blocked_by = blocked_by(self.alloc, by_place, past)?;
+        let mut probe = Vec::new(self.alloc);
+        let mut blocked_by = Vec::new(self.alloc);
+        add_members(&mut probe, by_place, &self.current.up)?;
+        add_members(&mut probe, by_place, &self.current.acting)?;
+        for kept in self.past.as_slice() {
+            if matters(self.les, &kept.past) {
+                add_up(&mut probe, by_place, &kept.statuses, &kept.past)?;
+            }
+            if kept.blocks {
+                add_down(&mut blocked_by, by_place, &kept.statuses, &kept.past)?;
+            }
+        }
+        let blocked_by = Seq::from_vec(blocked_by);
         let down = !blocked_by.is_empty();
         Ok(Prior {
-            probe,
+            probe: Seq::from_vec(probe),
             blocked_by,
             down,
         })
@@ -171,18 +184,14 @@ impl<R: Recoverable> PriorIndex<R> {
             → IsChange (allows change) (R.by_place b.code) osd (S.status_of statuses.now) b.status status b.past
             → IsIndexOf R.enough R.by_place (record b { status = status }) self.new }
     {
-        if let Some(places) = self.places.get(&osd) {
-            let past = self.past.as_mut_slice();
-            let code = &self.code;
-            renew_at(
-                past,
-                places.as_slice(),
-                code,
-                self.les,
-                change,
-                osd,
-                statuses,
-            );
+        let Some(places) = self.places.get(&osd) else {
+            return;
+        };
+        let past = self.past.as_mut_slice();
+        for place in places.as_slice() {
+            if *place < past.len() {
+                past[*place].renew(&self.code, self.les, change, osd, statuses);
+            }
         }
     }
 }

@@ -1,16 +1,39 @@
 ghost use Rattle.std.specs.Prelude.{◌≡◌, ℕ, IfOk};
 ghost use Rattle.pgp_sets.specs.declared.status.Status.{Status};
-ghost use Rattle.pgp_prior.specs.Changes.{allows, IsChangeIn};
+ghost use Rattle.pgp_prior.specs.Changes.{allows, rechecks, IsChangeIn};
 ghost use Rattle.pgp_prior.specs.JudgedInterval.{IsKept, AgreeOnMembers, later_les};
 ghost use Rattle.pgp_ids.specs.Past.{with_rw};
 
 use super::blocking::{blocks, matters};
-use super::change::Change;
 use super::statuses::Statuses;
 use pgp_code::Recoverable;
 use pgp_ids::{Epoch, OsdId, Past};
 use pgp_sets::StatusOf;
 use std::alloc::{AllocError, Global};
+
+/// How the statuses of a device change.
+#[derive(Clone, Copy)]
+pub(crate) enum Change {
+    /// It came up, or was given up for lost.
+    Better,
+    /// It went down, or counts as lost no more.
+    Worse,
+    /// It was destroyed.
+    Gone,
+}
+
+impl Change {
+    /// Whether an interval of the device has to be judged anew, which blocks or doesn't.
+    pub(crate) fn rechecks(self, blocks: bool) -> bool
+        ensures { result ≡ rechecks self blocks }
+    {
+        match self {
+            Change::Better => blocks,
+            Change::Worse => !blocks,
+            Change::Gone => true,
+        }
+    }
+}
 
 /// A past interval, with what has become of its devices.
 #[derive(Drop)]

@@ -9,22 +9,18 @@
 //! may have turned, by the law that more slots are never less.
 #![tactic(auto)]
 
-mod blocked_by;
+mod additions;
 mod blocking;
-mod change;
 mod index;
-mod index_lists;
 mod judged_interval;
 pub mod laws;
 mod members;
 mod places;
 mod prior_set;
-mod probe;
-mod renewal;
 mod statuses;
 mod walk;
 
-pub use blocking::{blocks, is_down, settled_slots};
+pub use blocking::{blocks, settled_slots};
 pub use index::PriorIndex;
 pub use members::{Members, members_of};
 pub use prior_set::Prior;

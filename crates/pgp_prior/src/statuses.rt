@@ -1,5 +1,5 @@
-ghost use Rattle.std.specs.Prelude.{◌≡◌, Some, IfOk, map};
-ghost use Rattle.pgp_prior.specs.KnownStatuses.{status_in, renamed, known_of};
+ghost use Rattle.std.specs.Prelude.{◌≡◌, IfOk, map};
+ghost use Rattle.pgp_prior.specs.KnownStatuses.{renamed, known_of};
 ghost use Rattle.pgp_prior.specs.Members.{members_of};
 
 use super::members::members_of;
@@ -45,29 +45,11 @@ impl Statuses {
     pub(crate) fn set(&mut self, osd: OsdId, status: Status)
         ensures { self.new.known.items ≡ map (renamed osd status) self.old.known.items }
     {
-        rename(self.known.as_mut_slice(), osd, status);
-    }
-
-    /// What is known of the device.
-    fn find(&self, osd: OsdId) -> Option<Status>
-        ensures { result ≡ status_in self.now.known.items osd }
-    {
-        for known in &self.known {
+        let entries = self.known.as_mut_slice();
+        for known in entries.iter_mut() {
             if known.osd == osd {
-                return Some(known.status);
+                known.status = status;
             }
-        }
-        None
-    }
-}
-
-/// Gives each entry of the device this status.
-fn rename(entries: &mut [KnownStatus], osd: OsdId, status: Status)
-    ensures { entries.new ≡ map (renamed osd status) entries.old }
-{
-    for known in entries.iter_mut() {
-        if known.osd == osd {
-            known.status = status;
         }
     }
 }
@@ -79,9 +61,11 @@ impl StatusOf for Statuses {
     ghost status_of = { λ statuses osd _. status_or_gone statuses.known.items osd };
 
     fn status(&self, osd: OsdId, _first: Epoch) -> Status {
-        match self.find(osd) {
-            Some(status) => status,
-            None => Status::Gone,
+        for known in &self.known {
+            if known.osd == osd {
+                return known.status;
+            }
         }
+        Status::Gone
     }
 }

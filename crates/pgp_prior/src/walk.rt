@@ -1,11 +1,11 @@
 ghost use Rattle.std.specs.Prelude.{◌≡◌, IfOk};
 ghost use Rattle.pgp_prior.specs.Prior.{prior_set};
 
-use super::blocked_by::blocked_by;
+use super::additions::{add_down, add_members, add_up};
+use super::blocking::{blocks, matters};
 use super::prior_set::Prior;
-use super::probe::probe;
 use pgp_code::Recoverable;
-use pgp_ids::{Epoch, Membership, Past};
+use pgp_ids::{Epoch, Membership, Past, Seq};
 use pgp_sets::StatusOf;
 use std::alloc::{AllocError, Global};
 
@@ -25,11 +25,23 @@ pub fn prior<R: Recoverable, S: StatusOf>(
     ensures { IfOk result (λ found. found
         ≡ prior_set (R.enough code.now) (R.by_place code.now) (S.status_of statuses.now) les past.now current.now) }
 {
-    let probe = probe(alloc, code.by_place(), statuses, les, past, current)?;
-    let blocked_by = blocked_by(alloc, code, statuses, les, past)?;
+    let by_place = code.by_place();
+    let mut probe = Vec::new(alloc);
+    let mut blocked_by = Vec::new(alloc);
+    add_members(&mut probe, by_place, &current.up)?;
+    add_members(&mut probe, by_place, &current.acting)?;
+    for interval in past {
+        if matters(les, interval) {
+            add_up(&mut probe, by_place, statuses, interval)?;
+        }
+        if blocks(code, statuses, les, interval) {
+            add_down(&mut blocked_by, by_place, statuses, interval)?;
+        }
+    }
+    let blocked_by = Seq::from_vec(blocked_by);
     let down = !blocked_by.is_empty();
     Ok(Prior {
-        probe,
+        probe: Seq::from_vec(probe),
         blocked_by,
         down,
     })

@@ -1,4 +1,4 @@
-use Rattle.pgp_prior.specs.declared.change.Change.TheVariants.{Better}
+use Rattle.pgp_prior.specs.declared.judged_interval.Change.TheVariants.{Better}
 use Rattle.pgp_prior.proofs.BetterLemmas.{no_worse-relieves, not_down-relieved}
 use Rattle.pgp_prior.proofs.KeptLemmas.{allowed}
 use Rattle.pgp_prior.proofs.index.PriorIndex.device_better.Goals as goal

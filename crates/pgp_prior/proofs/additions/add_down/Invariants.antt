@@ -2,7 +2,7 @@ use Rattle.std.proofs.Common.{◌≡◌, nat_lt, map}
 use Rattle.std.specs.List.{filter}
 use Rattle.pgp_lists.specs.Ordered.{IsAscending, with_items}
 use Rattle.pgp_prior.specs.Blocks.{is_down, down_osds}
-use Rattle.pgp_prior.proofs.blocked_by.add_down.Given as goal
+use Rattle.pgp_prior.proofs.additions.add_down.Given as goal
 
 -- the list so far, with the devices that are left and down, is the list with all that are down
 abbrev pub invariant-loop-member : goal.invariant-loop-member

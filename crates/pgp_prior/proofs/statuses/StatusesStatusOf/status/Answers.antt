@@ -1,7 +1,7 @@
 use Rattle.std.proofs.Common.{◌≡◌, ℕ, ◌+◌, ◌<◌, List, ◌∷◌, length, get_or, drop, ap, sym, ◌∙◌}
 use Rattle.std.proofs.lemmas.List.{drop_more, drop_all}
 use Rattle.pgp_prior.specs.declared.statuses.KnownStatus.{KnownStatus}
-use Rattle.pgp_prior.proofs.statuses.Statuses.find.Goals as goal
+use Rattle.pgp_prior.proofs.statuses.StatusesStatusOf.status.Goals as goal
 
 next : (items : List KnownStatus) (i : ℕ) (known : KnownStatus) → i < length items → known ≡ get_or items i known → drop i items ≡ known ∷ drop (i + 1) items
 next items i known below is = drop_more items i known below ∙ ap (λ (k : KnownStatus). k ∷ drop (i + 1) items) (sym is)

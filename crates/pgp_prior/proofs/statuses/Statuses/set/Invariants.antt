@@ -1,6 +1,6 @@
 use Rattle.std.proofs.Common.{◌≡◌, ◌++◌, take, drop, map}
 use Rattle.pgp_prior.specs.KnownStatuses.{renamed}
-use Rattle.pgp_prior.proofs.statuses.rename.Given as goal
+use Rattle.pgp_prior.proofs.statuses.Statuses.set.Given as goal
 
 -- the entries so far are renamed
 abbrev pub invariant-loop-known : goal.invariant-loop-known

@@ -3,7 +3,7 @@ use Rattle.pgp_ids.specs.Member.{is_before}
 use Rattle.pgp_lists.proofs.Ordered.{IsAscending-with_item}
 use Rattle.pgp_prior.specs.MemberOrder.{member_order}
 use Rattle.pgp_prior.specs.Blocks.{is_up_status}
-use Rattle.pgp_prior.proofs.probe.add_up.Goals as goal
+use Rattle.pgp_prior.proofs.additions.add_up.Goals as goal
 
 pub loop-member-preserved-in-Continue-1 : goal.loop-member-preserved-in-Continue-1
 loop-member-preserved-in-Continue-1 g c =

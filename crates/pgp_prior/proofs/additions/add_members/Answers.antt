@@ -1,7 +1,7 @@
 use Rattle.pgp_ids.specs.Member.{is_before}
 use Rattle.pgp_lists.proofs.Ordered.{IsAscending-with_item}
 use Rattle.pgp_prior.specs.MemberOrder.{member_order}
-use Rattle.pgp_prior.proofs.probe.add_members.Goals as goal
+use Rattle.pgp_prior.proofs.additions.add_members.Goals as goal
 
 pub loop-member-preserved : goal.loop-member-preserved
 loop-member-preserved c =

@@ -3,7 +3,7 @@ use Rattle.pgp_lists.specs.Ordered.{with_item}
 use Rattle.pgp_lists.proofs.Ordered.{nat_order, IsAscending-with_item}
 use Rattle.pgp_prior.specs.Blocks.{is_down}
 use Rattle.pgp_prior.proofs.Lists.{with_number}
-use Rattle.pgp_prior.proofs.blocked_by.add_down.Goals as goal
+use Rattle.pgp_prior.proofs.additions.add_down.Goals as goal
 
 pub loop-member-preserved-in-Continue-1 : goal.loop-member-preserved-in-Continue-1
 loop-member-preserved-in-Continue-1 g c =

@@ -2,7 +2,7 @@ use Rattle.std.proofs.Common.{◌≡◌}
 use Rattle.pgp_ids.specs.Member.{is_before}
 use Rattle.pgp_lists.specs.Ordered.{IsAscending, with_items}
 use Rattle.pgp_prior.specs.Members.{members_of}
-use Rattle.pgp_prior.proofs.probe.add_members.Given as goal
+use Rattle.pgp_prior.proofs.additions.add_members.Given as goal
 
 -- the list so far, with the members that are left, is the list with all of them
 abbrev pub invariant-loop-member : goal.invariant-loop-member

@@ -3,7 +3,7 @@ use Rattle.std.specs.List.{filter}
 use Rattle.pgp_ids.specs.Member.{is_before}
 use Rattle.pgp_lists.specs.Ordered.{IsAscending, with_items}
 use Rattle.pgp_prior.specs.Blocks.{is_up_status, acting_where}
-use Rattle.pgp_prior.proofs.probe.add_up.Given as goal
+use Rattle.pgp_prior.proofs.additions.add_up.Given as goal
 
 -- the list so far, with the members that are left and up, is the list with all that are up
 abbrev pub invariant-loop-member : goal.invariant-loop-member
