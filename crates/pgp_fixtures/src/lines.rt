@@ -22,8 +22,5 @@ pub fn entry_surely(alloc: Global, line: &str) -> Option<Entry> {
 
 /// The incremental that the line is.
 pub fn incremental(alloc: Global, line: &str) -> Option<Incremental> {
-    match entry(alloc, line)? {
-        Entry::Inc(inc) => Some(inc),
-        _ => None,
-    }
+    entry(alloc, line)?.into_incremental()
 }

@@ -1,3 +1,7 @@
+ghost use Rattle.std.specs.Prelude.{◌≡◌, IfSome, IsSome};
+ghost use Rattle.pgp_ids.specs.declared.entry.Entry.TheVariants.{Inc};
+ghost use Rattle.pgp_ids.specs.declared.incremental.Incremental.{Incremental as AnyIncremental};
+
 use super::incremental::Incremental;
 use super::report::{Info, Report};
 
@@ -22,6 +26,19 @@ impl Drop for Entry {
             Entry::Info(_) => {}
             Entry::Entries(_) => {}
             Entry::Close => {}
+        }
+    }
+}
+
+impl Entry {
+    /// The incremental, where the entry is one.
+    pub fn into_incremental(self) -> Option<Incremental>
+        ensures some { IfSome result (λ inc. self ≡ Inc inc) }
+        ensures none { (inc : AnyIncremental) → self ≡ Inc inc → IsSome result }
+    {
+        match self {
+            Entry::Inc(inc) => Some(inc),
+            _ => None,
         }
     }
 }
