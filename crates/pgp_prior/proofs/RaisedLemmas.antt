@@ -1,7 +1,5 @@
 -- Past intervals of which one may have gone read-write after all.
-use Rattle.std.proofs.Common.{Vec, Global, ◌≡◌, ◌≤◌, ℕ, zero, suc, List, [], ◌∷◌, Some, Bool, true, length, map, slice_get, set, refl, sym, ap, ◌∙◌, arith}
-use Rattle.std.specs.Vec.{with_items}
-use Rattle.std.proofs.lemmas.List.{length-map, with_items_is}
+use Rattle.std.proofs.Common.{◌≡◌, ◌≤◌, ℕ, zero, suc, List, [], ◌∷◌, Some, Bool, true, length, map, slice_get, set, refl, sym, ap, ◌∙◌, arith}
 use Rattle.std.proofs.lemmas.Grind.{common_steps}
 use Rattle.pgp_ids.specs.declared.past.Past.{Past}
 use Rattle.pgp_sets.specs.declared.status.Status.{Status}
@@ -11,11 +9,6 @@ use Rattle.pgp_prior.specs.JudgedInterval.{past_of}
 use Rattle.pgp_prior.specs.IndexOf.{HasEachPlace}
 use Rattle.pgp_prior.specs.Prior.{is_group_down}
 use Rattle.pgp_ids.specs.Past.{with_rw, raised_at}
-
-pub length-raised_at : (place : ℕ) (past : List Past) → length (raised_at place past) ≡ length past
-length-raised_at place [] = refl
-length-raised_at zero (p ∷ past) = refl
-length-raised_at (suc place) (p ∷ past) = grind (arith, length-raised_at place past)
 
 -- there is no such place
 pub raised_at-beyond : (place : ℕ) (past : List JudgedInterval) → length past ≤ place → map past_of past ≡ raised_at place (map past_of past)
@@ -31,12 +24,6 @@ raised_at-set zero (kept ∷ past) was now there is =
     ap (λ p. p ∷ map past_of past) (is ∙ ap (λ (k : JudgedInterval). with_rw k.past) (sym same))
 raised_at-set (suc place) (kept ∷ past) was now there is =
     ap (λ rest. kept.past ∷ rest) (raised_at-set place past was now (grind (arith, there)) is)
-
--- intervals of which one was raised take the place of those that were
-pub raised-written : (place : ℕ) (past : Vec JudgedInterval Global) (items : List JudgedInterval) → map past_of items ≡ raised_at place (map past_of past.items) → (with_items past items).items ≡ items
-raised-written place past items raised =
-    with_items_is past items
-    (omega (arith, ap length raised, length-raised_at place (map past_of past.items), length-map items past_of, length-map past.items past_of, past.ok.0))
 
 -- each interval has the first epoch and the members that it had
 get-raised_at : (place : ℕ) (past : List Past) (at : ℕ) (p : Past) → slice_get (raised_at place past) at ≡ Some p → (q : Past) × ((slice_get past at ≡ Some q) × (p.members ≡ q.members))
