@@ -10,6 +10,11 @@ use Rattle.pgp_prior.specs.IndexOf.{HasEachPlace}
 use Rattle.pgp_prior.specs.Prior.{is_group_down}
 use Rattle.pgp_ids.specs.Past.{with_rw, raised_at}
 
+pub length-raised_at : (place : ℕ) (past : List Past) → length (raised_at place past) ≡ length past
+length-raised_at place [] = refl
+length-raised_at zero (p ∷ past) = refl
+length-raised_at (suc place) (p ∷ past) = grind (arith, length-raised_at place past)
+
 -- there is no such place
 pub raised_at-beyond : (place : ℕ) (past : List JudgedInterval) → length past ≤ place → map past_of past ≡ raised_at place (map past_of past)
 raised_at-beyond place [] beyond = refl
