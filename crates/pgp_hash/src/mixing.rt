@@ -19,9 +19,7 @@ pub struct Triple {
 pub fn mix(words: Triple) -> Triple
     ensures { result ≡ mix words }
 {
-    let once = mix_c(mix_b(mix_a(words, 13), 8), 13);
-    let twice = mix_c(mix_b(mix_a(once, 12), 16), 5);
-    mix_c(mix_b(mix_a(twice, 3), 10), 15)
+    mix_round(mix_round(mix_round(words, 13, 8, 13), 12, 16, 5), 3, 10, 15)
 }
 
 /// The sum of two triples, word by word, modulo 2^32.
@@ -37,35 +35,17 @@ pub(crate) fn triple_sum(left: Triple, right: Triple) -> Triple
     }
 }
 
-/// A line of the mixing that changes `a`.
+/// Three lines of the mixing, of which each changes a word, by shifts of `p`, `q` and `r` places.
 #[inline]
-#[tactic(auto, unfolding(crate::specs::Mix::mix_a))]
-fn mix_a(t: Triple, places: u32) -> Triple
-    requires { places < 32 }
-    ensures { result ≡ mix_a places t }
+#[tactic(auto, unfolding(crate::specs::Mix::mix_a, crate::specs::Mix::mix_b, crate::specs::Mix::mix_c))]
+fn mix_round(t: Triple, p: u32, q: u32, r: u32) -> Triple
+    requires p { p < 32 }
+    requires q { q < 32 }
+    requires r { r < 32 }
+    ensures { result ≡ mix_c r (mix_b q (mix_a p t)) }
 {
-    let a = t.a.wrapping_sub(t.b).wrapping_sub(t.c) ^ (t.c >> places);
-    Triple { a, ..t }
-}
-
-/// A line of the mixing that changes `b`.
-#[inline]
-#[tactic(auto, unfolding(crate::specs::Mix::mix_b))]
-fn mix_b(t: Triple, places: u32) -> Triple
-    requires { places < 32 }
-    ensures { result ≡ mix_b places t }
-{
-    let b = t.b.wrapping_sub(t.c).wrapping_sub(t.a) ^ (t.a << places);
-    Triple { b, ..t }
-}
-
-/// A line of the mixing that changes `c`.
-#[inline]
-#[tactic(auto, unfolding(crate::specs::Mix::mix_c))]
-fn mix_c(t: Triple, places: u32) -> Triple
-    requires { places < 32 }
-    ensures { result ≡ mix_c places t }
-{
-    let c = t.c.wrapping_sub(t.a).wrapping_sub(t.b) ^ (t.b >> places);
-    Triple { c, ..t }
+    let a = t.a.wrapping_sub(t.b).wrapping_sub(t.c) ^ (t.c >> p);
+    let b = t.b.wrapping_sub(t.c).wrapping_sub(a) ^ (a << q);
+    let c = t.c.wrapping_sub(a).wrapping_sub(b) ^ (b >> r);
+    Triple { a, b, c }
 }

@@ -1,7 +1,7 @@
 //! The hash of an object's name.
 
-ghost use Rattle.std.specs.Prelude.{◌≡◌, ◌+◌, ◌*◌, ◌<◌, ◌≤◌, length, slice_index};
-ghost use Rattle.pgp_hash.specs.NameHash.{number_at, whole_block, last_block, name_hash};
+ghost use Rattle.std.specs.Prelude.{◌≡◌, ◌<◌, length};
+ghost use Rattle.pgp_hash.specs.NameHash.{whole_block, last_block, name_hash};
 
 use crate::mixing::{Triple, mix, triple_sum};
 
@@ -45,32 +45,10 @@ fn last_block(rest: &[u8], name_len: usize) -> Triple
     requires { length rest.now < 12 }
     ensures { result ≡ last_block rest.now name_len }
 {
+    let mut block = [0; 12];
+    block[..rest.len()].copy_from_slice(rest);
+    let Triple { a, b, c } = whole_block(&block);
     let low_length = (name_len & 0xffff_ffff) as u32;
-    Triple {
-        a: number_at(rest, 0),
-        b: number_at(rest, 4),
-        c: (number_at(rest, 8) << 8).wrapping_add(low_length),
-    }
-}
-
-/// The four bytes from place `at` as one number, low byte first; a byte past the end is 0.
-#[inline]
-fn number_at(bytes: &[u8], at: usize) -> u32
-    requires { at ≤ 8 }
-    ensures { result ≡ number_at bytes.now at }
-{
-    u32::from_le_bytes([
-        byte_at(bytes, at),
-        byte_at(bytes, at + 1),
-        byte_at(bytes, at + 2),
-        byte_at(bytes, at + 3),
-    ])
-}
-
-/// The byte at place `at`, or 0 past the end.
-#[inline]
-fn byte_at(bytes: &[u8], at: usize) -> u8
-    ensures { result ≡ slice_index bytes.now at }
-{
-    bytes.get(at).copied().unwrap_or(0)
+    let c = (c << 8).wrapping_add(low_length);
+    Triple { a, b, c }
 }
