@@ -83,8 +83,5 @@ fn leaf_of(tree: &Tree, x: u32, r: u32, item: i32) -> Option<OsdId>
 fn device_of(item: i32) -> Option<OsdId>
     ensures { result ≡ device_of item }
 {
-    if item < 0 || item > i32::from(OsdId::MAX) {
-        return None;
-    }
-    OsdId::new(item as u16)
+    OsdId::new(u16::try_from(item).ok()?)
 }

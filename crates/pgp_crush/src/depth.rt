@@ -30,7 +30,7 @@ pub(crate) fn is_too_deep(
         }
         below = set_of(alloc, &items)?;
     }
-    Ok(any_within(buckets, &below))
+    Ok(buckets.iter().any(|bucket| below.contains(&bucket.id)))
 }
 
 /// The items of the buckets whose ids are in the set.
@@ -48,11 +48,4 @@ fn items_within(
         }
     }
     Ok(items)
-}
-
-/// The id of some bucket is in the set.
-fn any_within(buckets: &[BucketSpec], ids: &HashSet<i32>) -> bool
-    ensures { result ≡ list_any (λ b. bag.contains int_eq ids.now b.id) buckets.now }
-{
-    buckets.iter().any(|bucket| ids.contains(&bucket.id))
 }

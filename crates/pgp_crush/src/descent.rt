@@ -1,10 +1,10 @@
 //! The way down from a bucket to an item of a type.
 
-ghost use Rattle.std.specs.Prelude.{◌≡◌, ◌<◌, ◌≤◌, ◌^◌, length, sum, Some};
+ghost use Rattle.std.specs.Prelude.{◌≡◌, ◌<◌, ◌≤◌, ◌^◌, sum, Some};
 ghost use Rattle.pgp_crush.specs.declared.descent.Step.{Step};
 ghost use Rattle.pgp_crush.specs.declared.descent.Descent.TheVariants.{Found};
 ghost use Rattle.pgp_crush.specs.Bucket.{bucket_of};
-ghost use Rattle.pgp_crush.specs.Descent.{rank_at, rank_limit, is_multiple, descent};
+ghost use Rattle.pgp_crush.specs.Descent.{rank_at, rank_limit, descent};
 
 use super::level::{Level, level_at};
 use super::tree::Tree;
@@ -49,24 +49,12 @@ impl Rank {
         match self {
             Rank::Same(r) => r,
             Rank::Spread(position, round, n) => {
-                let stride = if is_multiple(bucket, usize::from(n)) {
-                    u32::from(n) + 1
-                } else {
-                    u32::from(n)
-                };
+                let is_multiple = bucket.alg == BucketAlg::Uniform
+                    && bucket.items.len().is_multiple_of(usize::from(n));
+                let stride = u32::from(n) + u32::from(is_multiple);
                 u32::from(position) + stride * u32::from(round)
             }
         }
-    }
-}
-
-/// The bucket is uniform, and its number of items is a multiple of `n`.
-fn is_multiple(bucket: &BucketSpec, n: usize) -> bool
-    ensures { result ≡ is_multiple bucket.now.alg (length bucket.now.items) n }
-{
-    match bucket.alg {
-        BucketAlg::Uniform => bucket.items.len().is_multiple_of(n),
-        BucketAlg::List | BucketAlg::Straw2 => false,
     }
 }
 

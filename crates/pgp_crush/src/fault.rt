@@ -1,7 +1,7 @@
 //! Why a list of buckets is no tree.
 
 ghost use Rattle.std.specs.Prelude.{◌≡◌};
-ghost use Rattle.pgp_crush.specs.TreeFault.{tree_refusal_number, tree_fault_number};
+ghost use Rattle.pgp_crush.specs.TreeFault.{tree_fault_number};
 
 use std::alloc::AllocError;
 use std::error::Error;
@@ -29,16 +29,6 @@ pub enum TreeFault {
 }
 
 impl TreeFault {
-    /// The number of the refusal in answers.
-    pub fn number(self) -> u8
-        ensures { result ≡ tree_refusal_number self }
-    {
-        match self {
-            TreeFault::Memory => 51,
-            _ => 21,
-        }
-    }
-
     /// The number of the fault among those of a tree, 1 to 7.
     pub fn tree(self) -> Option<u8>
         ensures { result ≡ tree_fault_number self }
@@ -54,10 +44,11 @@ impl TreeFault {
             TreeFault::Memory => None,
         }
     }
+}
 
-    /// What it says to a person.
-    fn text(self) -> &'static str {
-        match self {
+impl fmt::Display for TreeFault {
+    fn fmt<W: fmt::Write>(&self, f: &mut fmt::Formatter<W>) -> fmt::Result {
+        f.write_str(match self {
             TreeFault::NoRoot => "the tree has not exactly one root",
             TreeFault::TwiceHeld => "a bucket's id or an item is twice in the tree",
             TreeFault::WrongType => "a bucket's type is 0, or not above that of a bucket in it",
@@ -67,13 +58,7 @@ impl TreeFault {
                 "the tree has more than 1024 buckets, or a bucket more than 256 items",
             TreeFault::WeightSum => "the weights of a bucket make more than 4294967295",
             TreeFault::Memory => "out of memory",
-        }
-    }
-}
-
-impl fmt::Display for TreeFault {
-    fn fmt<W: fmt::Write>(&self, f: &mut fmt::Formatter<W>) -> fmt::Result {
-        f.write_str(self.text())
+        })
     }
 }
 

@@ -65,10 +65,7 @@ fn has_twice_held(alloc: Global, buckets: &[BucketSpec], items: &[i32]) -> Resul
     ensures { IfOk result (λ twice. twice ≡ has_twice_held (map bucket_of buckets.now)) }
 {
     let ids = ids_of(alloc, buckets)?;
-    if has_repeat(alloc, &ids)? {
-        return Ok(true);
-    }
-    has_repeat(alloc, items)
+    Ok(has_repeat(alloc, &ids)? || has_repeat(alloc, items)?)
 }
 
 /// The items of all buckets.
@@ -104,11 +101,7 @@ pub(crate) fn find_root(buckets: &[BucketSpec], held: &HashSet<i32>) -> Option<u
     ensures within { IfSome result (λ place. place < length buckets.now) }
 {
     let root = root_place(buckets, held)?;
-    if root_count(buckets, held) == 1 {
-        Some(root)
-    } else {
-        None
-    }
+    (root_count(buckets, held) == 1).then_some(root)
 }
 
 /// The place of the first bucket that isn't held.

@@ -2,7 +2,7 @@
 
 ghost use Rattle.std.specs.Prelude.{◌≡◌, ◌≤◌};
 ghost use Rattle.pgp_crush.specs.Candidate.{input_of};
-ghost use Rattle.pgp_crush.specs.FirstN.{is_failure, taken_by, pick_of, first_n};
+ghost use Rattle.pgp_crush.specs.FirstN.{pick_of, first_n};
 
 use super::candidate::{Candidate, Input, Pick};
 use super::descent::Rank;
@@ -33,32 +33,12 @@ impl Input<'_> {
         ensures { result ≡ pick_of (input_of self.now.tree.now self.now.weights.now self.now.x self.now.kind) taken.now rep }
     {
         for f in 0..TRIES {
-            let candidate = self.candidate(Rank::Same(u32::from(rep) + u32::from(f)), 0);
-            if !is_failure(taken, &candidate) {
-                return taken_by(&candidate);
+            match self.candidate(Rank::Same(u32::from(rep) + u32::from(f)), 0) {
+                Candidate::Early => return None,
+                Candidate::Fit(pick) if !taken.has(&pick) => return Some(pick),
+                _ => {}
             }
         }
         None
-    }
-}
-
-/// The try is a failure, after which the next one follows.
-fn is_failure(taken: &TakenItems, candidate: &Candidate) -> bool
-    ensures { result ≡ is_failure taken.now candidate.now }
-{
-    match candidate {
-        Candidate::Early => false,
-        Candidate::Unfit => true,
-        Candidate::Fit(pick) => taken.has(pick),
-    }
-}
-
-/// What is taken by a try that is no failure: nothing if it came to a device too early.
-fn taken_by(candidate: &Candidate) -> Option<Pick>
-    ensures { result ≡ taken_by candidate.now }
-{
-    match candidate {
-        Candidate::Fit(pick) => Some(*pick),
-        _ => None,
     }
 }

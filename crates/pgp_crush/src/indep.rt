@@ -25,19 +25,7 @@ impl Cell {
     fn is_open(self) -> bool
         ensures { result ≡ is_open self }
     {
-        match self {
-            Cell::Open => true,
-            _ => false,
-        }
-    }
-
-    fn holds(self, item: i32) -> bool
-        ensures { result ≡ cell_holds item self }
-    {
-        match self {
-            Cell::Held(pick) => pick.item == item,
-            _ => false,
-        }
+        matches!(self, Cell::Open)
     }
 }
 
@@ -67,20 +55,9 @@ impl Input<'_> {
     {
         for position in 0..n {
             let place = usize::from(position);
-            let rank = Rank::Spread(position, round, n);
-            cells[place] = self.look_at(cells, cells[place], rank, position);
-        }
-    }
-
-    /// What a position has after it was looked at: one that is still open is tried.
-    fn look_at(&self, cells: &[Cell], cell: Cell, rank: Rank, position: u8) -> Cell
-        requires { rank_limit rank + position < 2 ^ 32 }
-        ensures { result ≡ after_look cells.now cell (candidate (input_of self.now.tree.now self.now.weights.now self.now.x self.now.kind) rank position) }
-    {
-        match cell {
-            Cell::Open => self.try_cell(cells, rank, position),
-            Cell::Gone => Cell::Gone,
-            Cell::Held(pick) => Cell::Held(pick),
+            if cells[place].is_open() {
+                cells[place] = self.try_cell(cells, Rank::Spread(position, round, n), position);
+            }
         }
     }
 
@@ -92,13 +69,8 @@ impl Input<'_> {
         match self.candidate(rank, position) {
             Candidate::Early => Cell::Gone,
             Candidate::Unfit => Cell::Open,
-            Candidate::Fit(pick) => {
-                if holds_item(cells, pick.item) {
-                    Cell::Open
-                } else {
-                    Cell::Held(pick)
-                }
-            }
+            Candidate::Fit(pick) if holds_item(cells, pick.item) => Cell::Open,
+            Candidate::Fit(pick) => Cell::Held(pick),
         }
     }
 }
@@ -114,7 +86,7 @@ fn any_open(cells: &[Cell]) -> bool
 fn holds_item(cells: &[Cell], item: i32) -> bool
     ensures { result ≡ list_any (cell_holds item) cells.now }
 {
-    cells.iter().any(|cell| cell.holds(item))
+    cells.iter().any(|cell| matches!(cell, Cell::Held(pick) if pick.item == item))
 }
 
 /// The leaves that the positions hold.

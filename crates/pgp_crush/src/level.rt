@@ -69,25 +69,17 @@ fn level_by<'a, C: Chooser>(tree: &'a Tree, chooser: &C, x: u32, r: u32, kind: u
     ensures weighed { (next : _) → result ≡ On next → sum next.now.weights < 2 ^ 32 }
 {
     let item = chooser.choose(x, r);
-    level_of(tree, Step { item, r }, kind)
-}
-
-/// The level whose bucket chose the item of this step.
-fn level_of(tree: &Tree, step: Step, kind: u8) -> Level<'_>
-    ensures value { (below : Bucket → Descent) → at_step tree.now kind step below ≡ end_of below result }
-    ensures found { (s : Step) → result ≡ End (Found s) → s ≡ step }
-    ensures next { (next : _) → result ≡ On next → next.now.id ≡ step.item }
-    ensures weighed { (next : _) → result ≡ On next → sum next.now.weights < 2 ^ 32 }
-{
-    if step.item >= 0 && kind == 0 {
-        return Level::End(Descent::Found(step));
+    let found = Level::End(Descent::Found(Step { item, r }));
+    if item >= 0 {
+        return if kind == 0 {
+            found
+        } else {
+            Level::End(Descent::Early)
+        };
     }
-    if step.item >= 0 {
-        return Level::End(Descent::Early);
-    }
-    match tree.bucket(step.item) {
+    match tree.bucket(item) {
         None => Level::End(Descent::Empty),
-        Some(next) if next.kind == kind => Level::End(Descent::Found(step)),
+        Some(next) if next.kind == kind => found,
         Some(next) => Level::On(next),
     }
 }

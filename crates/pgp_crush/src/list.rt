@@ -49,17 +49,11 @@ fn list_place(x: u32, r: u32, id: u32, items: &[i32], weights: &[u32]) -> usize
     while i > 0 {
         i -= 1;
         let hash = hash4(x, items[i].cast_unsigned(), r, id);
-        if is_above_share(weights[i], hash, total) {
+        let share = u64::from(hash % PARTS) * u64::from(total) / u64::from(PARTS);
+        if share < u64::from(weights[i]) {
             return i;
         }
         total -= weights[i];
     }
     0
-}
-
-/// The weight is above a hashed share of the total.
-fn is_above_share(weight: u32, hash: u32, total: u32) -> bool
-    ensures { result ≡ nat_lt (((hash % 2 ^ 16) * total) / 2 ^ 16) weight }
-{
-    u64::from(hash % PARTS) * u64::from(total) / u64::from(PARTS) < u64::from(weight)
 }

@@ -25,9 +25,6 @@ pub(crate) fn is_in(weights: &[u32], x: u32, osd: OsdId) -> bool
 pub fn is_in_by(weight: u32, x: u32, osd: OsdId) -> bool
     ensures { result ≡ is_in_by weight x osd }
 {
-    if weight == 0 {
-        false
-    } else {
-        weight >= FULL_WEIGHT || hash2(x, u32::from(osd.number())) % FULL_WEIGHT < weight
-    }
+    weight != 0
+        && (weight >= FULL_WEIGHT || hash2(x, u32::from(osd.number())) % FULL_WEIGHT < weight)
 }

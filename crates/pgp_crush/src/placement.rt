@@ -24,7 +24,12 @@ pub fn place(tree: Option<&Tree>, rule: Rule, weights: &[u32], x: u32, n: u8) ->
     ensures value { result ≡ placement (option_copied tree.entry) rule weights.now x n }
 {
     let Some(tree) = tree else {
-        return unplaced(rule, n);
+        let mut osds = Osds::new();
+        let empty = if rule.indep { n } else { 0 };
+        for _place in 0..empty {
+            osds.push(Place::new(None));
+        }
+        return osds;
     };
     let input = Input {
         tree,
@@ -37,18 +42,4 @@ pub fn place(tree: Option<&Tree>, rule: Rule, weights: &[u32], x: u32, n: u8) ->
     } else {
         input.first_n(n)
     }
-}
-
-/// The places where there is no tree: `n` empty ones of an erasure pool, none of a replicated one.
-fn unplaced(rule: Rule, n: u8) -> Osds
-    requires { n ≤ MAX_OSDS }
-    ensures { result ≡ if rule.indep then replicate n None else [] }
-{
-    let mut osds = Osds::new();
-    if rule.indep {
-        for _place in 0..n {
-            osds.push(Place::new(None));
-        }
-    }
-    osds
 }

@@ -92,17 +92,10 @@ fn draw_below(limit: u64, hash: u32, weight: u32) -> Option<u64>
     ensures below { IfSome result (λ d. (d ≡ draw (hash % 2 ^ 16) weight) × (d < limit)) }
     ensures not_below { IfNone result (limit ≤ draw (hash % 2 ^ 16) weight) }
 {
-    let left = left_of(hash);
+    let left = 0x1_0000_0000_0000_u64.saturating_sub(logarithm((hash % 0x1_0000) as u16));
     if u128::from(left) < u128::from(limit) * u128::from(weight) {
         Some(left / u64::from(weight))
     } else {
         None
     }
-}
-
-/// What the logarithm of a hash's lowest 16 bits leaves of 2^48.
-fn left_of(hash: u32) -> u64
-    ensures { result ≡ 2 ^ 48 - logarithm (hash % 2 ^ 16) }
-{
-    0x1_0000_0000_0000_u64.saturating_sub(logarithm((hash % 0x1_0000) as u16))
 }

@@ -1,11 +1,11 @@
 //! What the placement of a replicated pool has taken so far.
 
 ghost use Rattle.std.specs.Prelude.{◌≡◌, ◌<◌, Option, length, Some};
-ghost use Rattle.pgp_crush.specs.Picks.{no_picks, with_pick, is_taken, has_leaf};
+ghost use Rattle.pgp_crush.specs.Picks.{no_picks, with_pick, is_taken};
 
 use super::candidate::Pick;
 use arrayvec::ArrayVec;
-use pgp_ids::{MAX_OSDS, OsdId, Osds, Place};
+use pgp_ids::{MAX_OSDS, Osds, Place};
 use std::marker::Model;
 
 /// The items taken so far, and their leaves.
@@ -41,7 +41,11 @@ impl TakenItems {
     pub(crate) fn has(&self, pick: &Pick) -> bool
         ensures { result ≡ is_taken self.now pick.now }
     {
-        self.items.contains(&pick.item) || has_leaf(self.leaves.as_slice(), pick.leaf)
+        self.items.contains(&pick.item)
+            || self
+                .leaves
+                .as_slice()
+                .contains(&Place::new(Some(pick.leaf)))
     }
 
     /// Takes what was found, if something was.
@@ -60,11 +64,4 @@ impl TakenItems {
     {
         self.leaves
     }
-}
-
-/// Some place has this device.
-fn has_leaf(leaves: &[Place], osd: OsdId) -> bool
-    ensures { result ≡ has_leaf leaves.now osd }
-{
-    leaves.contains(&Place::new(Some(osd)))
 }

@@ -1,5 +1,7 @@
-use Rattle.std.proofs.Common.{◌≡◌, [], map, arith, sym, ap, ◌∙◌}
+use Rattle.std.proofs.Common.{◌≡◌, [], map, rules, tests, arith, sym, ap, ◌∙◌}
 use Rattle.std.specs.List.{filter}
+use Rattle.std.proofs.lemmas.Iterator.{YieldsList-from_slice}
+use Rattle.std.proofs.lemmas.Iterator.Search.{any_from_yields_List}
 use Rattle.std.proofs.lemmas.List.{nil_from_length}
 use Rattle.std.proofs.lemmas.Bool.Decides.{nat_tests}
 use Rattle.std.specs.Ordering.{int_eq}
@@ -23,7 +25,8 @@ pub returns : goal.returns
 returns c =
     let last : c.loop-level._level ≡ 10 = omega arith in
     let passes = λ (b : Bucket). bag.contains int_eq c.loop-level.below b.id in
-    rw (← (rw last at c.loop-level.invariant), any-filter passes (map bucket_of c.args.buckets.now), any-mapped bucket_of passes c.args.buckets.now) c.any_within.ensures
+    rw (← (rw last at c.loop-level.invariant), any-filter passes (map bucket_of c.args.buckets.now), any-mapped bucket_of passes c.args.buckets.now)
+    (any_from_yields_List _ _ _ _ c.any.ensures.ran (YieldsList-from_slice c.args.buckets.now cc) (λ x b q k. search (rules, tests)))
 
 pub returns-then-is_empty : goal.returns-then-is_empty
 returns-then-is_empty c =

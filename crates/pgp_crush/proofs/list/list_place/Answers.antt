@@ -6,8 +6,8 @@ use Rattle.std.proofs.lemmas.List.{take_all}
 use Rattle.pgp_crush.proofs.ChoiceLemmas.{list_place_is, place_below-more, place_below-none}
 use Rattle.pgp_crush.proofs.list.list_place.Goals as goal
 
-pub returns-then-is_above_share-clause-value : goal.returns-then-is_above_share-clause-value
-returns-then-is_above_share-clause-value c =
+pub returns-then-share-from-clause-value : goal.returns-then-share-from-clause-value
+returns-then-share-from-clause-value c =
     let fits : FitsSigned w32 (slice_index_or c.args.items.now (c.loop-i.i - 1) (pos 0)) = search rules in
     grind (arith, place_below-more, to_z-of_z)
 
