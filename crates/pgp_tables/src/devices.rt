@@ -28,10 +28,7 @@ fn absent() -> Device
 pub fn device_at(table: &HashMap<OsdId, Device>, osd: OsdId) -> Device
     ensures { result ≡ device_at table.now osd }
 {
-    match table.get(&osd) {
-        Some(device) => *device,
-        None => absent(),
-    }
+    table.get(&osd).copied().unwrap_or(absent())
 }
 
 /// Gives the device a place in the table, if it has none, where it is as absent as before.
@@ -148,18 +145,6 @@ enum EpochKind {
     LostAt,
 }
 
-/// The device with its epoch of this kind set.
-fn with_epoch(kind: EpochKind, entry: &DeviceEpoch, before: Device) -> Device
-    ensures { result ≡ with_epoch kind (Some entry.now) before }
-{
-    let mut device = before;
-    match kind {
-        EpochKind::UpThru => device.up_thru = entry.epoch,
-        EpochKind::LostAt => device.lost_at = entry.epoch,
-    }
-    device
-}
-
 /// Sets these epochs of devices, each of which has a place.
 #[tactic(auto, using(crate::proofs::Common::write_steps))]
 fn set_epochs(table: &mut HashMap<OsdId, Device>, entries: &[DeviceEpoch], kind: EpochKind)
@@ -168,7 +153,11 @@ fn set_epochs(table: &mut HashMap<OsdId, Device>, entries: &[DeviceEpoch], kind:
     ensures kept { (q : ℕ) → has_place table.new q ≡ has_place table.old q }
 {
     for entry in entries {
-        let device = with_epoch(kind, entry, device_at(table, entry.osd));
+        let mut device = device_at(table, entry.osd);
+        match kind {
+            EpochKind::UpThru => device.up_thru = entry.epoch,
+            EpochKind::LostAt => device.lost_at = entry.epoch,
+        }
         set_device(table, entry.osd, device);
     }
 }
