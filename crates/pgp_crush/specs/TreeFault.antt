@@ -66,6 +66,11 @@ fault_below_root tree =
 unfoldable pub tree_fault : List Bucket → Option TreeFault
 tree_fault tree = if has_no_root tree then Some NoRoot else fault_below_root tree
 
+-- the number of a fault of the map that holds the tree
+abbrev pub tree_refusal_number : TreeFault → ℕ
+tree_refusal_number Memory = 51
+tree_refusal_number _ = 21
+
 -- the number of the fault among those of a tree
 abbrev pub tree_fault_number : TreeFault → Option ℕ
 tree_fault_number NoRoot = Some 1

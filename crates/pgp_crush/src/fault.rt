@@ -1,7 +1,7 @@
 //! Why a list of buckets is no tree.
 
 ghost use Rattle.std.specs.Prelude.{◌≡◌};
-ghost use Rattle.pgp_crush.specs.TreeFault.{tree_fault_number};
+ghost use Rattle.pgp_crush.specs.TreeFault.{tree_refusal_number, tree_fault_number};
 
 use std::alloc::AllocError;
 use std::error::Error;
@@ -29,6 +29,16 @@ pub enum TreeFault {
 }
 
 impl TreeFault {
+    /// The number of the refusal in answers.
+    pub fn number(self) -> u8
+        ensures { result ≡ tree_refusal_number self }
+    {
+        match self {
+            TreeFault::Memory => 51,
+            _ => 21,
+        }
+    }
+
     /// The number of the fault among those of a tree, 1 to 7.
     pub fn tree(self) -> Option<u8>
         ensures { result ≡ tree_fault_number self }

@@ -4,7 +4,7 @@ ghost use Rattle.std.specs.Prelude.{◌≡◌, ◌≤◌, Some, option_map};
 ghost use Rattle.pgp_map.specs.Held.{HasGroup};
 ghost use Rattle.pgp_map.specs.MapOf.{Says};
 ghost use Rattle.pgp_map.specs.Pools.{pool};
-ghost use Rattle.pgp_sets.specs.Sets.{membership, raw_set, without_down, acting_set, members_from_up, placement_input, rule_of};
+ghost use Rattle.pgp_sets.specs.Sets.{membership, raw_set, without_down, members_from_up, placement_input};
 
 use super::places::without_down;
 use pgp_crush::{Rule, place};
@@ -32,13 +32,12 @@ pub fn raw(map: &OsdMap, pg: &PgId) -> Osds
     ensures { Says map.now (λ incs. option_map (λ made. raw_set incs made pg.now) (pool incs pg.now.pool) ≡ Some result) }
 {
     let pool = pool_of(map, pg);
-    place(
-        map.tree(),
-        rule_of(&pool),
-        map.weights(),
-        placement_input(&pool, pg),
-        pool.size,
-    )
+    let rule = Rule {
+        indep: pool.kind.is_by_place(),
+        leaf: pool.leaf,
+    };
+    let input = placement_input(&pool, pg);
+    place(map.tree(), rule, map.weights(), input, pool.size)
 }
 
 /// The membership of the group, where the tree puts it on these places: [`up_acting`] is this of [`raw`]. No memory is taken.
@@ -49,7 +48,8 @@ pub fn filter(map: &OsdMap, pg: &PgId, raw: &Osds) -> Membership
 {
     let pool = pool_of(map, pg);
     let up = without_down(map, &pool, raw.as_slice());
-    let acting = acting_set(map, &pool, pg, &up);
+    let given = without_down(map, &pool, map.temp(*pg));
+    let acting = if given.is_empty() { up.copy() } else { given };
     let up_primary = up.first();
     let acting_primary = acting.first();
     Membership {
@@ -75,16 +75,6 @@ pub(crate) fn pool_of(map: &OsdMap, pg: &PgId) -> PoolSpec
     }
 }
 
-/// How the pool places its groups: in an erasure or grouped pool each position keeps its place.
-fn rule_of(pool: &PoolSpec) -> Rule
-    ensures { result ≡ rule_of pool.now }
-{
-    Rule {
-        indep: pool.kind.is_by_place(),
-        leaf: pool.leaf,
-    }
-}
-
 /// What the group's placement hashes: its number among those of the pool, and the pool.
 pub(crate) fn placement_input(pool: &PoolSpec, pg: &PgId) -> u32
     ensures { result ≡ placement_input pool.now pg.now }
@@ -92,12 +82,4 @@ pub(crate) fn placement_input(pool: &PoolSpec, pg: &PgId) -> u32
     let groups = u32::from(pool.pg_num);
     let group = stable_mod(u32::from(pg.pg), groups, mask_of(groups));
     hash2(group, u32::from(pg.pool.number()))
-}
-
-/// Who serves the group, where this is its up set.
-fn acting_set(map: &OsdMap, pool: &PoolSpec, pg: &PgId, up: &Osds) -> Osds
-    ensures { Says map.now (λ incs. result ≡ acting_set incs pool.now pg.now up.now) }
-{
-    let given = without_down(map, pool, map.temp(*pg));
-    if given.is_empty() { up.copy() } else { given }
 }
