@@ -6,7 +6,7 @@ ghost use Rattle.pgp_crush.specs.Descent.{rank_limit};
 ghost use Rattle.pgp_crush.specs.Candidate.{input_of, device_of, leaf_of, candidate};
 
 use super::descent::{Descent, Rank, descend};
-use super::out::is_in;
+use super::out::is_in_by;
 use super::tree::Tree;
 use pgp_ids::OsdId;
 
@@ -55,7 +55,7 @@ impl Input<'_> {
             Descent::Found(step) => step,
         };
         match leaf_of(self.tree, self.x, step.r + u32::from(more), step.item) {
-            Some(leaf) if is_in(self.weights, self.x, leaf) => Candidate::Fit(Pick {
+            Some(leaf) if is_in_by(self.weights[usize::from(leaf.number())], self.x, leaf) => Candidate::Fit(Pick {
                 item: step.item,
                 leaf,
             }),

@@ -46,16 +46,11 @@ pub(crate) fn level_at<'a>(
     let r = rank.number_at(bucket);
     let id = bucket.id;
     let items = bucket.items.as_slice();
+    let weights = bucket.weights.as_slice();
     match bucket.alg {
         BucketAlg::Uniform => level_by(tree, &Uniform { id, items }, x, r, kind),
-        BucketAlg::List => {
-            let weights = bucket.weights.as_slice();
-            level_by(tree, &List { id, items, weights }, x, r, kind)
-        }
-        BucketAlg::Straw2 => {
-            let weights = bucket.weights.as_slice();
-            level_by(tree, &Straw2 { items, weights }, x, r, kind)
-        }
+        BucketAlg::List => level_by(tree, &List { id, items, weights }, x, r, kind),
+        BucketAlg::Straw2 => level_by(tree, &Straw2 { items, weights }, x, r, kind),
     }
 }
 
