@@ -55,10 +55,11 @@ impl Input<'_> {
             Descent::Found(step) => step,
         };
         match leaf_of(self.tree, self.x, step.r + u32::from(more), step.item) {
-            Some(leaf) if is_in_by(self.weights[usize::from(leaf.number())], self.x, leaf) => Candidate::Fit(Pick {
-                item: step.item,
-                leaf,
-            }),
+            Some(leaf) if is_in_by(self.weights[usize::from(leaf.number())], self.x, leaf) =>
+                Candidate::Fit(Pick {
+                    item: step.item,
+                    leaf,
+                }),
             _ => Candidate::Unfit,
         }
     }

@@ -1,6 +1,6 @@
 //! The tests of an incremental's pg_temp lists, by the pools of the new map.
 
-ghost use Rattle.std.specs.Prelude.{◌≡◌, nat_eq, is_none, filter_map};
+ghost use Rattle.std.specs.Prelude.{◌≡◌, nat_eq, filter_map};
 ghost use Rattle.std.specs.List.{list_any};
 ghost use Rattle.pgp_lists.specs.Repeats.{has_repeat};
 ghost use Rattle.pgp_map.specs.MapFault.{is_bad_list, has_bad_places};
@@ -34,13 +34,6 @@ fn is_placed(osd: OsdId, places: &[Place]) -> bool
     places.contains(&sought)
 }
 
-/// A place of the list is empty.
-fn has_empty_place(places: &[Place]) -> bool
-    ensures { result ≡ list_any is_none places.now }
-{
-    places.iter().any(|place| place.osd().is_none())
-}
-
 /// The pool can't have such a list.
 fn has_bad_places(made: &PoolSpec, places: &[Place]) -> bool
     ensures { result ≡ has_bad_places made.now places.now }
@@ -48,7 +41,7 @@ fn has_bad_places(made: &PoolSpec, places: &[Place]) -> bool
     if made.kind.is_by_place() {
         !places.is_empty() && places.len() != usize::from(made.size)
     } else {
-        has_empty_place(places)
+        places.iter().any(|place| place.osd().is_none())
     }
 }
 
