@@ -1,7 +1,6 @@
-use Rattle.std.proofs.Common.{None, false, filter, map, ap, ◌∙◌, if◌then◌else◌}
+use Rattle.std.proofs.Common.{None, false, filter, map, ◌∙◌, if◌then◌else◌}
 use Rattle.std.specs.Option.{option_map_or}
 use Rattle.std.proofs.lemmas.List.{take_all}
-use Rattle.pgp_map.specs.Held.{held_up}
 use Rattle.pgp_map.specs.HeldLaws.{held_up-is}
 use Rattle.pgp_sets.proofs.places.without_down.Goals as goal
 
