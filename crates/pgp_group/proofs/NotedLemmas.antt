@@ -1,9 +1,10 @@
 -- The index of a prior set, by statuses that tell the same, and as the entries of its devices are renewed one after another.
-use Rattle.pgp_group.proofs.Common.{arith, ◌≡◌, ℕ, ◌+◌, ◌<◌, List, [], ◌∷◌, Bool, true, false, ◌||◌, nat_eq, length, refl, ap, sym, ◌∙◌, inl, inr, eqb-true, eq-eqb, take, get_or, if◌then◌else◌, or-false, or-true, cases_Bool, take_more, take_all, list_any-append, Past, OsdMap, is_no_worse, is_no_better, IsChange, held_status, Status, Up, renoted, has_noted, status_noted, status_up, allows_turn, HasEachMember, GivesEach, DeviceFacts, Some, subst, Contains, enough_of, is_by_place, enough_of-mono, AnyCode, Member, contains-map, Basis, IsIndexOf, members_of, PriorIndex, blocks-same, nat_tests}
+use Rattle.pgp_group.proofs.Common.{arith, not, nat_lt, ◌≡◌, ℕ, ◌+◌, ◌<◌, List, [], ◌∷◌, Bool, true, false, ◌||◌, nat_eq, length, refl, ap, sym, ◌∙◌, inl, inr, eqb-true, eq-eqb, take, get_or, if◌then◌else◌, or-false, or-true, cases_Bool, take_more, take_all, list_any-append, Past, OsdMap, is_no_worse, is_no_better, IsChange, held_status, Status, Up, renoted, has_noted, status_noted, status_up, allows_turn, HasEachMember, GivesEach, DeviceFacts, Some, subst, Contains, enough_of, is_by_place, enough_of-mono, AnyCode, Member, contains-map, Basis, IsIndexOf, members_of, PriorIndex, blocks-same, nat_tests}
 use Rattle.pgp_group.specs.declared.device_facts.EachUp.{EachUp}
-use Rattle.pgp_group.specs.declared.device_facts.Turn.{Turn}
+use Rattle.pgp_prior.specs.Changes.{is_same_or_gone}
+use Rattle.pgp_sets.specs.Status.{status_by}
+use Rattle.pgp_sets.specs.declared.status.Status.TheVariants.{Gone, Lost, Down}
 use Rattle.pgp_prior.specs.JudgedInterval.{past_of}
-use Rattle.pgp_group.specs.declared.device_facts.Turn.TheVariants as turn
 
 -- both tell the same of each acting member of these intervals
 abbrev pub AgreeOnEach : Bool → (ℕ → ℕ → Status) → (ℕ → ℕ → Status) → List Past → Type 0
@@ -28,11 +29,6 @@ index-agree b status index is agree = record {
   les_is = is.les_is;
 }
 
--- ---- a status that stays is allowed by any turn
-
-pub allows-same : (kind : Turn) (status : Status) → allows_turn kind status status ≡ true
-allows-same kind status = grind arith
-
 -- ---- any change of a device is one to up, and then one from up
 
 -- the statuses, where the device is up
@@ -51,7 +47,7 @@ to_up old = grind arith
 from_up : (new : Status) → is_no_better Up new ≡ true
 from_up new = grind arith
 
-module _ (by_place : Bool) (osd : ℕ) (told old new : ℕ → ℕ → Status) (past : List Past) (change : IsChange (allows_turn turn.Again) by_place osd told old new past) where
+module _ (by_place : Bool) (osd : ℕ) (told old new : ℕ → ℕ → Status) (past : List Past) (change : IsChange (λ _ _. true) by_place osd told old new past) where
   pub change-up : (all : EachUp) → IsChange is_no_worse by_place osd (status_up all) old (raised osd old) past
   change-up all interval there = grind (arith, nat_tests, raised-it, to_up, raised-other)
 
@@ -59,6 +55,39 @@ module _ (by_place : Bool) (osd : ℕ) (told old new : ℕ → ℕ → Status) (
   change-from_up interval there =
       let is = change interval there in
       grind (arith, raised-it osd old interval.first, from_up (new osd interval.first))
+
+-- ---- what the map said and says of a device allows its statuses to turn as they do, and to stay
+
+same_allowed : (now was gone again lost : Bool) (status : Status)
+    → (if now then is_no_worse else (if was then is_no_better else (if gone then is_same_or_gone else (if again then (λ _ _. true) else (if lost then is_no_better else is_no_worse))))) status status ≡ true
+same_allowed true was gone again lost status = grind arith
+same_allowed false true gone again lost status = grind arith
+same_allowed false false true again lost status = grind arith
+same_allowed false false false true lost status = refl
+same_allowed false false false false true status = grind arith
+same_allowed false false false false false status = grind arith
+
+allows-same : (before after : DeviceFacts) (status : Status) → allows_turn before after status status ≡ true
+allows-same before after = same_allowed after.up before.up (not after.there) (not before.there) (nat_lt after.lost_at before.lost_at)
+
+turn-allowed : (before after : DeviceFacts) (first : ℕ) → allows_turn before after (status_noted before first) (status_noted after first) ≡ true
+turn-allowed before after first = turned before.up after.up before.there after.there
+  where
+    gone : (lost : Bool) → is_same_or_gone (if lost then Lost else Down) Gone ≡ true
+    gone true = refl
+    gone false = refl
+
+    down : (was now : ℕ) → (if nat_lt now was then is_no_better else is_no_worse) (if nat_lt first was then Lost else Down) (if nat_lt first now then Lost else Down) ≡ true
+    down was now = grind (arith, nat_tests)
+
+    turned : (was now was_there there : Bool) → allows_turn (record before { up = was; there = was_there }) (record after { up = now; there = there })
+        (status_by was was_there before.lost_at first) (status_by now there after.lost_at first) ≡ true
+    turned was true was_there there = to_up (status_by was was_there before.lost_at first)
+    turned true false was_there there = from_up (status_by false there after.lost_at first)
+    turned false false false false = refl
+    turned false false true false = gone (nat_lt first before.lost_at)
+    turned false false false true = refl
+    turned false false true true = down before.lost_at after.lost_at
 
 -- ---- the devices of the entries so far have the statuses of the map
 
@@ -83,18 +112,23 @@ module _ (map : OsdMap) (noted : List DeviceFacts) (i : ℕ) (entry : DeviceFact
   partly-other : (q first : ℕ) → (entry.osd ≡ q → ⊥) → partly map (take (i + 1) noted) status q first ≡ partly map (take i noted) status q first
   partly-other q first apart = grind (arith, has-more noted i entry q within item, or-false (has_noted q (take i noted)))
 
-  -- where the device's entry says something else than the map, and its statuses turned so
-  pub partly-change : (by_place : Bool) (past : List Past) (kind : Turn) → ((first : ℕ) → allows_turn kind (status_noted entry first) (held_status map entry.osd first) ≡ true) → GivesEach by_place status past noted
-      → IsChange (allows_turn kind) by_place entry.osd (held_status map) (partly map (take i noted) status) (partly map (take (i + 1) noted) status) past
-  partly-change by_place past kind turned gives interval there = record {
+  -- where the device's entry may say something else than the map
+  pub partly-change : (by_place : Bool) (past : List Past) → GivesEach by_place status past noted
+      → IsChange (allows_turn entry (renoted map entry)) by_place entry.osd (held_status map) (partly map (take i noted) status) (partly map (take (i + 1) noted) status) past
+  partly-change by_place past gives interval there = record {
     of_it = λ m acts same. partly-it entry.osd interval.first refl;
-    allowed_of_it = grind (arith, nat_tests, partly-it);
+    allowed_of_it = λ m acts same.
+        let first = interval.first in
+        let was : status entry.osd first ≡ status_noted entry first = ap (λ q. status q first) (sym same) ∙ gives interval m entry there acts (i, within, sym item) (sym same) in
+        subst (λ (s : Status). allows_turn entry (renoted map entry) (partly map (take i noted) status entry.osd first) s ≡ true) (sym (partly-it entry.osd first refl))
+        (allowed (has_noted entry.osd (take i noted)) first
+        (subst (λ (s : Status). allows_turn entry (renoted map entry) s (held_status map entry.osd first) ≡ true) (sym was) (turn-allowed entry (renoted map entry) first)));
     of_others = λ m acts apart. partly-other m.osd interval.first (λ same. apart (sym same));
   }
     where
-      allowed : (b : Bool) (first : ℕ) → allows_turn kind (status entry.osd first) (held_status map entry.osd first) ≡ true
-          → allows_turn kind (taken map status b entry.osd first) (held_status map entry.osd first) ≡ true
-      allowed true first is = allows-same kind (held_status map entry.osd first)
+      allowed : (b : Bool) (first : ℕ) → allows_turn entry (renoted map entry) (status entry.osd first) (held_status map entry.osd first) ≡ true
+          → allows_turn entry (renoted map entry) (taken map status b entry.osd first) (held_status map entry.osd first) ≡ true
+      allowed true first is = allows-same entry (renoted map entry) (held_status map entry.osd first)
       allowed false first is = is
 
   -- where it says the same

@@ -1,7 +1,10 @@
 -- The parts of a view are those of its definition, and its verdict is the first whose cause holds.
 use Rattle.pgp_group.proofs.Common.{◌≡◌, List, [], ◌++◌, Option, Some, None, Bool, true, false, not, map, refl, ap₂, sym, ◌∙◌, list_any, option_map, is_by_place, is_before, Membership, Info, best_info, Heard, Preference, ascending, KeptLog, members_of, Prior, AreHeard, GroupLog, heard, has_member, prior, leader, best, has_whole_log, present_members, peers, peer_missing, peer_states, is_waiting, CountedLog, arith, nat_tests, ℕ, suc, ◌<◌, ◌∷◌, find, unwrap_or, cases_lt, true≢false, Verdict, NoPrimary, Down, Waiting, Incomplete, Short, NeedLog, NeedUpThru, Serve, verdict_holds, verdict, verdict_place, IsFirstCause}
+use Rattle.std.specs.Option.{option_map_or}
 use Rattle.pgp_info.specs.Prefers.{prefers_with as prefers_by}
+use Rattle.pgp_group.specs.Parts.{IsBestCopy}
 use Rattle.pgp_group.specs.Prefers.{prefers}
+use Rattle.pgp_group.specs.declared.group.best_copy.BestCopy.{BestCopy}
 
 -- ---- the best copy
 
@@ -10,6 +13,10 @@ best-is g found are = ap₂ best_info are.prefer are.infos
 
 pub states-whole : (g : GroupLog) (info : Info) → best g ≡ Some info → has_whole_log g info ≡ true → peer_states g ≡ map (peer_missing g info) (peers g info)
 states-whole g info is log = grind (arith, nat_tests)
+
+pub no-whole : (g : GroupLog) (info : Info) (copy : BestCopy) → best g ≡ Some info → has_whole_log g info ≡ false
+    → copy.member ≡ Some info.member → copy.whole ≡ false → copy.states ≡ [] → IsBestCopy g copy
+no-whole g info copy is log member whole states = grind (arith, nat_tests)
 
 -- the members of up and acting, by the same place rule and membership
 pub present-is : (g : GroupLog) (by_place : Bool) (current : Membership) → by_place ≡ is_by_place g.history.code → current ≡ g.history.current → ascending is_before (members_of by_place current.up ++ members_of by_place current.acting) ≡ present_members g
@@ -29,7 +36,9 @@ pub log-there : (found : Option CountedLog) (log : KeptLog) → Some log ≡ opt
 log-there None log is = grind (arith, nat_tests)
 log-there (Some l) log is = (l, refl, let same : Some log ≡ Some l.log = is in cc)
 
--- ---- places tell verdicts apart
+pub no-log : (found : Option CountedLog) → None ≡ option_map (λ l. l.log) found → [] ≡ option_map_or (λ l. l.log.entries) found []
+no-log None is = refl
+no-log (Some l) is = let none : None ≡ Some l.log = is in cc
 
 -- ---- the first cause that holds
 

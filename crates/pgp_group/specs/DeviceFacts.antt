@@ -1,5 +1,5 @@
 -- What a map said of the devices of past intervals, and the statuses that this gives (this project's own choice).
-use Rattle.std.specs.Prelude.{◌≡◌, ℕ, List, Bool, true, Contains, nat_eq, map as mapped}
+use Rattle.std.specs.Prelude.{◌≡◌, ℕ, List, Bool, true, not, Contains, nat_eq, nat_lt, map as mapped, if◌then◌else◌}
 use Rattle.std.specs.List.{list_any}
 use Rattle.pgp_ids.specs.declared.member.Member.{Member}
 use Rattle.pgp_ids.specs.declared.past.Past.{Past}
@@ -13,8 +13,6 @@ use Rattle.pgp_sets.specs.declared.status.Status.{Status}
 use Rattle.pgp_sets.specs.declared.status.Status.TheVariants.{Up}
 use Rattle.pgp_group.specs.declared.device_facts.DeviceFacts.{DeviceFacts}
 use Rattle.pgp_group.specs.declared.device_facts.EachUp.{EachUp}
-use Rattle.pgp_group.specs.declared.device_facts.Turn.{Turn}
-use Rattle.pgp_group.specs.declared.device_facts.Turn.TheVariants as turn
 
 -- what the map says of the device
 abbrev pub noted_of : OsdMap → ℕ → DeviceFacts
@@ -40,12 +38,15 @@ status_noted entry first = status_by entry.up entry.there entry.lost_at first
 abbrev pub status_up : EachUp → ℕ → ℕ → Status
 status_up all osd first = Up
 
--- a turn of this kind may change the first status to the second
-abbrev pub allows_turn : Turn → Status → Status → Bool
-allows_turn turn.Better = is_no_worse
-allows_turn turn.Worse = is_no_better
-allows_turn turn.Gone = is_same_or_gone
-allows_turn turn.Again = λ old new. true
+-- The status of a device of which the map said the first and says the second may change so: for the better where it is up;
+-- for the worse where it was, or counts as lost no more; from down or lost to gone; and in any way where it was made again.
+abbrev pub allows_turn : (before after : DeviceFacts) → Status → Status → Bool
+allows_turn before after =
+    if after.up then is_no_worse
+    else (if before.up then is_no_better
+    else (if not after.there then is_same_or_gone
+    else (if not before.there then (λ old new. true)
+    else (if nat_lt after.lost_at before.lost_at then is_no_better else is_no_worse))))
 
 -- each acting member of these intervals is noted
 abbrev pub HasEachMember : Bool → List Past → List DeviceFacts → Type 0

@@ -9,7 +9,6 @@ pub mod View
 pub mod Examples
 pub mod Worked
 pub mod Present
-pub mod Causes
 pub mod InboxOf
 pub mod KeptInfos
 pub mod KeptReports

@@ -6,14 +6,12 @@ use Rattle.pgp_info.specs.declared.preference.Preference.{Preference}
 use Rattle.pgp_ids.specs.declared.report.Info.{Info}
 use Rattle.pgp_missing.specs.Kept.{IsLogOf}
 use Rattle.pgp_group.specs.GroupLog.{GroupLog, reports}
-use Rattle.pgp_group.specs.Heard.{les, heard, reported}
+use Rattle.pgp_group.specs.Heard.{heard, reported}
 use Rattle.pgp_group.specs.KeptReports.{AreLogsOf, member_log}
-use Rattle.pgp_group.specs.Peering.{past, prior, leader, best, whole_best, peer_states}
+use Rattle.pgp_group.specs.Peering.{leader, best, whole_best, peer_states}
 use Rattle.pgp_group.specs.Prefers.{prefers}
-use Rattle.pgp_group.specs.Verdict.{is_waiting}
 use Rattle.pgp_group.specs.declared.logs.CountedLog.{CountedLog}
-use Rattle.pgp_group.specs.declared.parts.BestCopy.{BestCopy}
-use Rattle.pgp_group.specs.declared.parts.Needs.{Needs}
+use Rattle.pgp_group.specs.declared.group.best_copy.BestCopy.{BestCopy}
 
 -- these are the infos that are heard, with the preference of the group's pool
 pub record AreHeard (g : GroupLog) (found : Heard Preference) : Type 0 where
@@ -31,10 +29,3 @@ pub record IsBestCopy (g : GroupLog) (copy : BestCopy) : Type 0 where
   pub member : copy.member ≡ option_map (λ info. info.member) (best g)
   pub whole : copy.whole ≡ is_some (whole_best g)
   pub states : copy.states ≡ peer_states g
-
--- these are the members that the group needs
-pub record AreNeeds (g : GroupLog) (needs : Needs) : Type 0 where
-  pub intervals : needs.intervals ≡ past g
-  pub les : needs.les ≡ les g
-  pub prior : needs.prior ≡ prior g
-  pub waiting : needs.waiting ≡ is_waiting g

@@ -23,17 +23,11 @@ fn copy_of_log(alloc: Global, log: &[LogEntry]) -> Result<Vec<LogEntry>, AllocEr
 {
     let mut copy = Vec::new(alloc);
     for entry in log {
-        copy.push(copy_of_entry(entry)?)?;
+        copy.push(LogEntry {
+            version: entry.version,
+            change: entry.change,
+            object: entry.object.clone()?,
+        })?;
     }
     Ok(copy)
-}
-
-fn copy_of_entry(entry: &LogEntry) -> Result<LogEntry, AllocError>
-    ensures { IfOk result (λ copy. copy ≡ entry.now) }
-{
-    Ok(LogEntry {
-        version: entry.version,
-        change: entry.change,
-        object: entry.object.clone()?,
-    })
 }

@@ -9,7 +9,7 @@ ghost use Rattle.pgp_prior.specs.IndexOf.{Basis, IsIndexOf};
 ghost use Rattle.pgp_prior.specs.Members.{members_of};
 ghost use Rattle.pgp_sets.specs.Status.{held_status};
 ghost use Rattle.pgp_sets.specs.declared.status.Status.{Status};
-ghost use Rattle.pgp_group.specs.DeviceFacts.{noted_of, renoted_all, has_noted, status_noted, allows_turn, HasEachMember, GivesEach, AreOfMap};
+ghost use Rattle.pgp_group.specs.DeviceFacts.{noted_of, renoted_all, has_noted, allows_turn, HasEachMember, GivesEach, AreOfMap};
 
 use pgp_code::AnyCode;
 use pgp_ids::{Epoch, OsdId, Past};
@@ -87,38 +87,6 @@ fn note(noted: &mut Vec<DeviceFacts>, osd: OsdId, map: &OsdMap) -> Result<(), Al
     Ok(())
 }
 
-/// How the statuses of a device changed from one look to the next.
-#[derive(Clone, Copy)]
-pub(crate) enum Turn {
-    /// It came up, or was given up for lost.
-    Better,
-    /// It went down, and may have been given up or destroyed since, or it counts as lost no more.
-    Worse,
-    /// It was down or lost, and was destroyed.
-    Gone,
-    /// It was destroyed, made again, and went down since.
-    Again,
-}
-
-/// How the statuses of the device changed from the one entry to the other.
-fn turn_of(was: &DeviceFacts, now: &DeviceFacts) -> Turn
-    ensures { (first : ℕ) → allows_turn result (status_noted was.now first) (status_noted now.now first) ≡ true }
-{
-    if now.up {
-        Turn::Better
-    } else if was.up {
-        Turn::Worse
-    } else if !now.there {
-        Turn::Gone
-    } else if !was.there {
-        Turn::Again
-    } else if now.lost_at < was.lost_at {
-        Turn::Worse
-    } else {
-        Turn::Better
-    }
-}
-
 /// Notes what the map says now of each device that is noted, and tells the index of each device of which it says something
 /// else.
 pub(crate) fn renew_all(noted: &mut [DeviceFacts], index: &mut PriorIndex<AnyCode>, map: &OsdMap)
@@ -130,27 +98,38 @@ pub(crate) fn renew_all(noted: &mut [DeviceFacts], index: &mut PriorIndex<AnyCod
     for entry in noted.iter_mut() {
         let now = DeviceFacts::of(map, entry.osd);
         if !is_same(&now, entry) {
-            renew(index, turn_of(entry, &now), entry.osd, map);
+            renew(index, entry, &now, map);
             *entry = now;
         }
     }
 }
 
-/// Lets the index take the statuses of the device, by the call for how they changed. Those of a device that was made again
-/// rose to up, and fell from there.
-fn renew(index: &mut PriorIndex<AnyCode>, turn: Turn, osd: OsdId, map: &OsdMap)
+/// Lets the index take the statuses of a device of which the map said the first and says the second, by the call for how they
+/// changed. Those of a device that was made again rose to up, and fell from there.
+fn renew(
+    index: &mut PriorIndex<AnyCode>,
+    before: &DeviceFacts,
+    after: &DeviceFacts,
+    map: &OsdMap,
+)
     ensures { (b : Basis Code) (status : ℕ → ℕ → Status) → IsIndexOf enough_of is_by_place b index.old
-        → IsChange (allows_turn turn) (is_by_place b.code) osd (held_status map.now) b.status status b.past
+        → IsChange (allows_turn before.now after.now) (is_by_place b.code) after.now.osd (held_status map.now) b.status status b.past
         → IsIndexOf enough_of is_by_place (record b { status = status }) index.new }
 {
-    match turn {
-        Turn::Better => index.device_better(osd, map),
-        Turn::Worse => index.device_worse(osd, map),
-        Turn::Gone => index.device_gone(osd, map),
-        Turn::Again => {
-            index.device_better(osd, &EachUp);
-            index.device_worse(osd, map);
-        }
+    let osd = after.osd;
+    if after.up {
+        index.device_better(osd, map);
+    } else if before.up {
+        index.device_worse(osd, map);
+    } else if !after.there {
+        index.device_gone(osd, map);
+    } else if !before.there {
+        index.device_better(osd, &EachUp);
+        index.device_worse(osd, map);
+    } else if after.lost_at < before.lost_at {
+        index.device_worse(osd, map);
+    } else {
+        index.device_better(osd, map);
     }
 }
 

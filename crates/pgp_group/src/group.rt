@@ -1,15 +1,16 @@
 //! A placement group, as the log so far tells of it.
 
-ghost use Rattle.std.specs.Prelude.{◌≡◌, ◌≤◌, ◌++◌, ℕ, [], ◌∷◌, List, Some, None, true, false, length, IfOk, OnOk, OnErr};
+ghost use Rattle.std.specs.Prelude.{◌≡◌, ◌≤◌, ◌++◌, ◌||◌, ℕ, [], ◌∷◌, List, Some, None, true, not, nat_lt, length, IfOk, OnOk, OnErr};
 ghost use Rattle.pgp_code.specs.AnyCode.{enough_of, is_by_place};
 ghost use Rattle.pgp_code.specs.declared.any.AnyCode.{AnyCode as Code};
 ghost use Rattle.pgp_interval.specs.History.{History};
 ghost use Rattle.pgp_interval.specs.IntervalsOf.{IsIntervalsOf};
-ghost use Rattle.pgp_interval.specs.Runs.{current_first};
+ghost use Rattle.pgp_interval.specs.ReadWrite.{acting_slots};
 ghost use Rattle.pgp_ids.specs.declared.entry.Entry.{Entry as AnyEntry};
 ghost use Rattle.pgp_ids.specs.declared.entry.Entry.TheVariants as entry;
 ghost use Rattle.pgp_ids.specs.declared.incremental.Incremental.{Incremental};
 ghost use Rattle.pgp_ids.specs.declared.pg_id.PgId.{PgId as Id};
+ghost use Rattle.pgp_ids.specs.Osds.{osd_count};
 ghost use Rattle.pgp_map.specs.Held.{HasGroup};
 ghost use Rattle.pgp_map.specs.Map.{epoch as epoch_of};
 ghost use Rattle.pgp_map.specs.MapFault.{map_fault, then_with};
@@ -17,34 +18,33 @@ ghost use Rattle.pgp_map.specs.MapOf.{IsMapOf};
 ghost use Rattle.pgp_map.specs.Pools.{has_group, is_same_group};
 ghost use Rattle.pgp_group.specs.Entries.{inc_of, incs_of};
 ghost use Rattle.pgp_group.specs.GroupHistory.{EpochsAscend, made_at};
-ghost use Rattle.pgp_group.specs.Causes.{AreCauses};
 ghost use Rattle.pgp_group.specs.GroupLog.{GroupLog, cleans, incs};
 ghost use Rattle.pgp_group.specs.GroupOf.{Keeps, IsGroupOf, IsSilent, IsThere, TellsNothingAhead};
 ghost use Rattle.pgp_group.specs.Heard.{les};
 ghost use Rattle.pgp_group.specs.KeptPrior.{IsReckoned, KeepsPrior};
-ghost use Rattle.pgp_group.specs.Parts.{AreHeard, AreLogsHeard, IsBestCopy, AreNeeds};
+ghost use Rattle.pgp_group.specs.Parts.{AreHeard, AreLogsHeard, IsBestCopy};
+ghost use Rattle.pgp_group.specs.Peering.{prior as prior_of};
 ghost use Rattle.pgp_group.specs.Present.{IsPresent};
-ghost use Rattle.pgp_group.specs.Verdict.{verdict as verdict_of};
+ghost use Rattle.pgp_group.specs.Verdict.{is_waiting, verdict as verdict_of};
 ghost use Rattle.pgp_group.specs.View.{view_of, scratch};
 
 mod best_copy;
 mod names;
 mod next;
 
-use super::causes::Causes;
+use self::best_copy::BestCopy;
 use super::counted::primary_facts;
-use super::heard::{is_waiting, leader};
+use super::heard::is_waiting;
 use super::infos::Infos;
 use super::kept_prior::KeptPrior;
 use super::named_devices::NamedDevices;
-use super::parts::{BestCopy, Needs};
 use super::reports::Reports;
-use super::standing::{is_short, needs_up_thru};
 use pgp_code::{AnyCode, Recoverable};
 use pgp_ids::{Entry, Epoch, Info, Membership, PgId, Report, Seq, Verdict, View};
-use pgp_info::{Best, Preference};
-use pgp_interval::Intervals;
+use pgp_info::Preference;
+use pgp_interval::{Intervals, acting_slots};
 use pgp_map::OsdMap;
+use pgp_prior::members_of;
 use pgp_sets::up_acting;
 use std::alloc::{AllocError, Global};
 
@@ -210,7 +210,8 @@ impl Group {
         ensures kept { (g : GroupLog) → Keeps g self.old → IsPresent g map.now first → Keeps g self.new }
     {
         let by_place = self.intervals.code().by_place();
-        let prefer = Preference::of_pool(by_place, leader(by_place, &current.acting));
+        let leader = members_of(by_place, &current.acting).next();
+        let prefer = Preference::of_pool(by_place, leader);
         self.infos.look(self.alloc, map, first, prefer)?;
         self.reports.look(self.alloc, map, first)?;
         if let Some(best) = self.infos.heard.best() {
@@ -234,87 +235,67 @@ impl Group {
     {
         let heard = &self.infos.heard;
         let copy = self.best_copy(&current, heard)?;
-        let needs = self.needs(heard)?;
-        let causes = self.causes(map, first, &current, &copy, &needs);
-        Ok(view_of_parts(
-            count,
-            map.epoch(),
-            first,
-            current,
-            copy,
-            needs,
-            causes.verdict(),
-        ))
-    }
-
-    /// Whom the group has to hear, and whether it was.
-    fn needs(&self, heard: &Best<Preference>) -> Result<Needs, AllocError>
-        ensures { IfOk result (λ needs. (g : GroupLog) → Keeps g self.now → IsReckoned g self.now.reckoned.index
-            → AreHeard g heard.now → AreNeeds g needs) }
-    {
-        let les = self.infos.les;
         let intervals = self.intervals.past(self.alloc)?;
         let prior = self.reckoned.index.prior()?;
         let waiting = is_waiting(prior.probe.as_slice(), heard);
-        Ok(Needs {
+        let verdict = self.verdict(map, first, &current, &copy, prior.down, waiting);
+        Ok(View {
+            count,
+            epoch: map.epoch(),
+            up: current.up,
+            up_primary: current.up_primary,
+            acting: current.acting,
+            acting_primary: current.acting_primary,
+            first,
             intervals: Seq::from_vec(intervals),
-            les,
-            prior,
-            waiting,
+            les: self.infos.les,
+            probe: prior.probe,
+            blocked_by: prior.blocked_by,
+            verdict,
+            best: copy.member,
+            missing: copy.states,
         })
     }
 
-    /// Why the group may not serve yet.
-    fn causes(
+    /// The verdict of the first cause that holds.
+    fn verdict(
         &self,
         map: &OsdMap,
         first: Epoch,
         current: &Membership,
         copy: &BestCopy,
-        needs: &Needs,
-    ) -> Causes
+        down: bool,
+        waiting: bool,
+    ) -> Verdict
         ensures { (g : GroupLog) → Keeps g self.now → IsPresent g map.now first → current.now ≡ g.history.current
-            → IsBestCopy g copy.now → AreNeeds g needs.now → AreCauses g result }
+            → IsBestCopy g copy.now → (prior_of g).down ≡ down → is_waiting g ≡ waiting → result ≡ verdict_of g }
     {
-        Causes {
-            no_primary: current.acting_primary.is_none(),
-            down: needs.prior.down,
-            waiting: needs.waiting,
-            incomplete: copy.member.is_none(),
-            short: is_short(self.intervals.code(), current),
-            need_log: !copy.whole,
-            need_up_thru: needs_up_thru(map, first, current.acting_primary),
+        let Some(primary) = current.acting_primary else {
+            return Verdict::NoPrimary;
+        };
+        if down {
+            Verdict::Down
+        } else if waiting {
+            Verdict::Waiting
+        } else if copy.member.is_none() {
+            Verdict::Incomplete
+        } else if is_short(self.intervals.code(), current) {
+            Verdict::Short
+        } else if !copy.whole {
+            Verdict::NeedLog
+        } else if map.up_thru(primary) < first {
+            Verdict::NeedUpThru
+        } else {
+            Verdict::Serve
         }
     }
 }
 
-/// The view that is made of these parts.
-fn view_of_parts(
-    count: usize,
-    epoch: Epoch,
-    first: Epoch,
-    current: Membership,
-    copy: BestCopy,
-    needs: Needs,
-    verdict: Verdict,
-) -> View
-    ensures { (g : GroupLog) → length g.log ≡ count → epoch_of (incs g) ≡ epoch → current_first g.history ≡ first
-        → g.history.current ≡ current → IsBestCopy g copy → AreNeeds g needs → verdict_of g ≡ verdict → view_of g ≡ result }
+/// Acting has fewer than min_size members, or their slots aren't enough.
+fn is_short(code: &AnyCode, members: &Membership) -> bool
+    ensures { result ≡ (nat_lt (osd_count members.now.acting) members.now.min_size
+        || not (enough_of code.now (acting_slots (is_by_place code.now) members.now.acting))) }
 {
-    View {
-        count,
-        epoch,
-        up: current.up,
-        up_primary: current.up_primary,
-        acting: current.acting,
-        acting_primary: current.acting_primary,
-        first,
-        intervals: needs.intervals,
-        les: needs.les,
-        probe: needs.prior.probe,
-        blocked_by: needs.prior.blocked_by,
-        verdict,
-        best: copy.member,
-        missing: copy.states,
-    }
+    members.acting.osd_count() < usize::from(members.min_size)
+        || !code.enough(acting_slots(code.by_place(), &members.acting))
 }

@@ -1,8 +1,7 @@
 //! Whom a group has heard.
 
-ghost use Rattle.std.specs.Prelude.{◌≡◌, not, false, Contains, slice_get, filter, IfOk, IfSome, IfNone, OnOk};
+ghost use Rattle.std.specs.Prelude.{◌≡◌, not, false, Contains, filter, IfOk, IfSome, IfNone, OnOk};
 ghost use Rattle.std.specs.List.{list_any};
-ghost use Rattle.pgp_prior.specs.Members.{members_of};
 ghost use Rattle.pgp_info.specs.Best.{HasDistinctMembers};
 ghost use Rattle.pgp_info.specs.Heard.{with_infos};
 ghost use Rattle.pgp_group.specs.GroupLog.{GroupLog};
@@ -11,21 +10,14 @@ ghost use Rattle.pgp_group.specs.KeptInfos.{counts};
 ghost use Rattle.pgp_group.specs.Present.{IsPresent};
 
 use super::counted::is_counted;
-use pgp_ids::{Epoch, Info, Member, Osds};
+use pgp_ids::{Epoch, Info, Member};
 use pgp_info::{Best, Preference};
 use pgp_map::OsdMap;
-use pgp_prior::members_of;
 use std::alloc::{AllocError, Global};
 
-/// The member that leads: the first of acting.
-pub(crate) fn leader(by_place: bool, acting: &Osds) -> Option<Member>
-    ensures { result ≡ slice_get (members_of by_place acting.now) 0 }
-{
-    members_of(by_place, acting).next()
-}
-
-/// Of each member that has one of these infos which counts, the last one.
-pub(crate) fn heard(
+/// Of each member that has one of these infos which counts, the last one, by the last map and the first epoch of the current
+/// interval; and the best of them by this preference.
+pub fn last_infos(
     alloc: Global,
     map: &OsdMap,
     first: Epoch,

@@ -1,13 +1,13 @@
 //! The infos of a group, and whom it has heard by them.
 
-ghost use Rattle.std.specs.Prelude.{◌≡◌, [], true, false, max, IfOk, OnOk, OnErr};
+ghost use Rattle.std.specs.Prelude.{◌≡◌, [], true, false, IfOk, OnOk, OnErr};
 ghost use Rattle.pgp_map.specs.Map.{epoch as epoch_of};
 ghost use Rattle.pgp_group.specs.GroupLog.{GroupLog, incs, infos};
 ghost use Rattle.pgp_group.specs.Heard.{heard};
 ghost use Rattle.pgp_group.specs.KeptInfos.{KeepsInfos, TakesInfo};
 ghost use Rattle.pgp_group.specs.Present.{IsPresent};
 
-use super::heard::{forget_uncounted, hear, heard};
+use super::heard::{forget_uncounted, hear, last_infos};
 use super::inbox::Inbox;
 use pgp_ids::{Epoch, Info};
 use pgp_info::{Best, Preference};
@@ -49,7 +49,7 @@ impl Infos {
         ensures err { OnErr result ((g : GroupLog) → KeepsInfos g self.old → KeepsInfos g self.new) }
     {
         self.inbox.push(*info, at, info.stamp)?;
-        self.les = later_of(self.les, info.history_les);
+        self.les = self.les.max(info.history_les);
         Ok(())
     }
 
@@ -67,10 +67,12 @@ impl Infos {
         ensures kept { (g : GroupLog) → IsPresent g map.now first → KeepsInfos g self.old → KeepsInfos g self.new }
     {
         if !self.goes_on(&prefer) {
-            return self.hear_anew(alloc, map, first, prefer);
+            self.heard = self.heard_by(alloc, map, first, prefer)?;
+            self.inbox.mark_seen();
+            return Ok(());
         }
         // It takes no memory to hear nobody.
-        let nobody = heard(alloc, map, first, &[], prefer)?;
+        let nobody = last_infos(alloc, map, first, &[], prefer)?;
         forget_uncounted(&mut self.heard, map, first);
         match hear(&mut self.heard, map, first, self.inbox.unseen()) {
             Ok(()) => {
@@ -93,25 +95,7 @@ impl Infos {
         !self.inbox.is_ahead() && prefer == self.heard.prefer()
     }
 
-    /// Finds the best of those who are heard anew, by another preference.
-    fn hear_anew(
-        &mut self,
-        alloc: Global,
-        map: &OsdMap,
-        first: Epoch,
-        prefer: Preference,
-    ) -> Result<(), AllocError>
-        ensures ok { OnOk result ((g : GroupLog) → IsPresent g map.now first → KeepsInfos g self.old
-            → self.new.heard ≡ record { prefer = prefer; infos = heard g }) }
-        ensures kept { (g : GroupLog) → IsPresent g map.now first → KeepsInfos g self.old → KeepsInfos g self.new }
-    {
-        let heard = self.heard_by(alloc, map, first, prefer)?;
-        self.heard = heard;
-        self.inbox.mark_seen();
-        Ok(())
-    }
-
-    /// Whom the group has heard, by this preference.
+    /// Whom the group has heard, by this preference, found anew.
     fn heard_by(
         &self,
         alloc: Global,
@@ -123,17 +107,10 @@ impl Infos {
             → best ≡ record { prefer = prefer; infos = heard g }) }
     {
         if self.inbox.is_ahead() {
-            return heard(alloc, map, first, self.inbox.all(), prefer);
+            return last_infos(alloc, map, first, self.inbox.all(), prefer);
         }
-        let mut best = heard(alloc, map, first, self.heard.infos(), prefer)?;
+        let mut best = last_infos(alloc, map, first, self.heard.infos(), prefer)?;
         hear(&mut best, map, first, self.inbox.unseen())?;
         Ok(best)
     }
-}
-
-/// The later one of two epochs.
-fn later_of(a: Epoch, b: Epoch) -> Epoch
-    ensures { result ≡ max a b }
-{
-    if a < b { b } else { a }
 }

@@ -10,7 +10,6 @@
 //! alone.
 #![tactic(auto)]
 
-mod causes;
 mod copies;
 mod counted;
 mod device_facts;
@@ -22,10 +21,9 @@ mod kept_prior;
 pub mod laws;
 mod logs;
 mod named_devices;
-mod parts;
 mod peers;
 mod reports;
-mod standing;
 
 pub use counted::{is_counted, primary_facts};
 pub use group::Group;
+pub use heard::last_infos;

@@ -66,7 +66,16 @@ impl Reports {
         ensures kept { (g : GroupLog) → IsPresent g map.now first → KeepsReports g self.old → KeepsReports g self.new }
     {
         self.keep_counted(alloc, map, first);
-        self.hear_unseen(alloc, map, first)
+        match self.logs.hear(alloc, map, first, self.inbox.unseen()) {
+            Ok(()) => {
+                self.inbox.mark_seen();
+                Ok(())
+            }
+            Err(fault) => {
+                self.forget(alloc);
+                Err(fault)
+            }
+        }
     }
 
     /// Drops the logs that count no more, or all where a report came ahead of its epoch.
@@ -77,24 +86,6 @@ impl Reports {
             self.forget(alloc);
         } else {
             self.logs.keep_counted(map, first);
-        }
-    }
-
-    /// Adds the entries of the reports that weren't looked at and count to the logs, all of which count.
-    fn hear_unseen(&mut self, alloc: Global, map: &OsdMap, first: Epoch) -> Result<(), AllocError>
-        ensures ok { OnOk result ((g : GroupLog) → IsPresent g map.now first → AreCounted g self.old
-            → AreLogsOf g (reports g) self.new.logs.of_members.items) }
-        ensures kept { (g : GroupLog) → IsPresent g map.now first → AreCounted g self.old → KeepsReports g self.new }
-    {
-        match self.logs.hear(alloc, map, first, self.inbox.unseen()) {
-            Ok(()) => {
-                self.inbox.mark_seen();
-                Ok(())
-            }
-            Err(fault) => {
-                self.forget(alloc);
-                Err(fault)
-            }
         }
     }
 

@@ -14,7 +14,7 @@ ghost use Rattle.pgp_group.specs.Heard.{reported};
 ghost use Rattle.pgp_group.specs.Parts.{AreHeard, AreLogsHeard, IsBestCopy};
 ghost use Rattle.pgp_group.specs.Peering.{best as best_of, peer_states};
 
-use super::{BestCopy, Group};
+use super::Group;
 use crate::peers::states;
 use pgp_code::Recoverable;
 use pgp_ids::{Info, Member, Membership, PeerMissing, Seq};
@@ -23,6 +23,17 @@ use pgp_lists::insert_in_order;
 use pgp_missing::MemberLog;
 use pgp_prior::members_of;
 use std::alloc::{AllocError, Global};
+
+/// The best copy of a group, where there is one, and the states of the others.
+#[derive(Drop)]
+pub(crate) struct BestCopy {
+    /// The member whose copy it is.
+    pub(crate) member: Option<Member>,
+    /// Whether there is one, and its log is whole.
+    pub(crate) whole: bool,
+    /// The states of the other members that were heard, in ascending order, where it is.
+    pub(crate) states: Seq<PeerMissing>,
+}
 
 impl Group {
     /// The best copy of those that were heard, and the states of the others.
@@ -37,27 +48,11 @@ impl Group {
         let Some(best) = heard.best() else {
             return Ok(no_log_to_follow(self.alloc, None));
         };
-        match self.reports.logs.log_of(best.member) {
-            Some(log) => self.copy_of_best(current, log, best, heard),
-            None => {
-                let empty = MemberLog::begin(self.alloc, best);
-                self.copy_of_best(current, &empty, best, heard)
-            }
-        }
-    }
-
-    /// The best copy is that of the member with this info and this log; where the log is whole, the states of the others.
-    fn copy_of_best(
-        &self,
-        current: &Membership,
-        log: &MemberLog,
-        best: &Info,
-        heard: &Best<Preference>,
-    ) -> Result<BestCopy, AllocError>
-        ensures { IfOk result (λ copy. (g : GroupLog) → Keeps g self.now → current.now ≡ g.history.current
-            → AreHeard g heard.now → best_of g ≡ Some best.now
-            → IsLogOf best.now (reported g best.now.member) log.now → IsBestCopy g copy) }
-    {
+        let empty = MemberLog::begin(self.alloc, best);
+        let log = match self.reports.logs.log_of(best.member) {
+            Some(log) => log,
+            None => &empty,
+        };
         if !log.whole() {
             return Ok(no_log_to_follow(self.alloc, Some(best.member)));
         }

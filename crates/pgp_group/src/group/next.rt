@@ -1,6 +1,6 @@
 //! The first map and the next one, where it is known how the group lies by them.
 
-ghost use Rattle.std.specs.Prelude.{◌≡◌, ◌≢◌, ◌++◌, [], ◌∷◌, List, Some, None, true, option_map, OnOk, OnErr};
+ghost use Rattle.std.specs.Prelude.{◌≡◌, ◌≢◌, ◌++◌, [], ◌∷◌, List, Some, None, true, OnOk, OnErr};
 ghost use Rattle.pgp_ids.specs.declared.entry.Entry.{Entry as AnyEntry};
 ghost use Rattle.pgp_ids.specs.declared.entry.Entry.TheVariants as entry;
 ghost use Rattle.pgp_ids.specs.declared.incremental.Incremental.{Incremental};
@@ -9,8 +9,8 @@ ghost use Rattle.pgp_interval.specs.SameMembers.{is_same};
 ghost use Rattle.pgp_map.specs.Held.{HasGroup};
 ghost use Rattle.pgp_map.specs.Map.{epoch as epoch_of};
 ghost use Rattle.pgp_map.specs.MapFault.{map_fault, then_with};
-ghost use Rattle.pgp_map.specs.MapOf.{IsMapOf, Says};
-ghost use Rattle.pgp_map.specs.Pools.{pool, has_group};
+ghost use Rattle.pgp_map.specs.MapOf.{IsMapOf};
+ghost use Rattle.pgp_map.specs.Pools.{has_group};
 ghost use Rattle.pgp_sets.specs.Sets.{membership};
 ghost use Rattle.pgp_group.specs.Entries.{incs_of};
 ghost use Rattle.pgp_group.specs.GroupHistory.{EpochsAscend, group_facts, group_primary, made_at};
@@ -19,7 +19,7 @@ ghost use Rattle.pgp_group.specs.Reaching.{reaching};
 
 use super::{Group, Infos, Intervals, KeptPrior, NamedDevices, Reports};
 use pgp_code::AnyCode;
-use pgp_ids::{Epoch, Membership, OsdId, PgId, PoolKind, PrimaryFacts};
+use pgp_ids::{Epoch, Membership, OsdId, PgId, PrimaryFacts};
 use pgp_map::OsdMap;
 use std::alloc::{AllocError, Global};
 
@@ -32,7 +32,7 @@ impl Group {
             → has_group (incs_of log) pg ≡ true → made_at (incs_of log) pg.pool ≡ epoch_of (incs_of log)
             → IsSilent log pg → membership (incs_of log) pg ≡ Some members → IsGroupOf log pg result }
     {
-        let kind = kind_of(map, &pg);
+        let kind = map.pool(pg.pool).unwrap().kind;
         let intervals = Intervals::begin(alloc, AnyCode::of_pool(kind), map.epoch(), members);
         let (_, current) = intervals.current();
         let reckoned = KeptPrior::begin(alloc, *intervals.code(), current);
@@ -97,14 +97,6 @@ impl Group {
     {
         self.intervals.stay(epoch);
     }
-}
-
-/// The kind of the group's pool.
-fn kind_of(map: &OsdMap, pg: &PgId) -> PoolKind
-    requires { HasGroup map.now pg.now }
-    ensures { Says map.now (λ incs. option_map (λ made. made.kind) (pool incs pg.now.pool) ≡ Some result) }
-{
-    map.pool(pg.pool).unwrap().kind
 }
 
 /// Whether the group lies alike by both: then its interval goes on.

@@ -1,4 +1,4 @@
-use Rattle.pgp_group.proofs.Common.{◌≡◌, ℕ, true, ◌+◌, ap, arith, get_or, set, subst, sym, take, ◌∙◌, enough_of, is_by_place, IsChange, IsIndexOf, held_status, renoted, status_noted, allows_turn, DeviceFacts}
+use Rattle.pgp_group.proofs.Common.{◌≡◌, ◌+◌, ap, arith, get_or, set, subst, sym, take, ◌∙◌, enough_of, is_by_place, IsChange, IsIndexOf, held_status, renoted, allows_turn, DeviceFacts}
 use Rattle.std.proofs.lemmas.List.Edits.{map_over_more}
 use Rattle.pgp_group.proofs.NotedLemmas.{index-agree, partly, partly-all, partly-change, partly-same}
 use Rattle.pgp_group.proofs.Lists.{under_way}
@@ -23,14 +23,11 @@ loop-entry-preserved c =
         index = λ b is gives.
             let old = partly map (take i all) b.status in
             let new = partly map (take (i + 1) all) b.status in
-            let kind = w.turn_of.result in
-            let turned : (first : ℕ) → allows_turn kind (status_noted x first) (held_status map x.osd first) ≡ true = λ first.
-            subst (λ (e : DeviceFacts). allows_turn kind (status_noted x first) (status_noted e first) ≡ true) said
-            (subst (λ (e : DeviceFacts). allows_turn kind (status_noted e first) (status_noted c.of-now.result first) ≡ true) (sym c.entry-item.is) (w.turn_of.ensures first)) in
             subst (IsIndexOf enough_of is_by_place (record b { status = new })) (sym w.index-is)
             (w.renew.ensures (record b { status = old }) new (so_far.index b is gives)
-            (subst (λ (e : DeviceFacts). IsChange (allows_turn kind) (is_by_place b.code) e.osd (held_status map) old new b.past) c.entry-item.is
-            (partly-change map all i x within item b.status (is_by_place b.code) b.past kind turned gives)));
+            (subst (λ (e : DeviceFacts). IsChange (allows_turn e c.of-now.result) (is_by_place b.code) c.of-now.result.osd (held_status map) old new b.past) c.entry-item.is
+            (subst (λ (e : DeviceFacts). IsChange (allows_turn x e) (is_by_place b.code) e.osd (held_status map) old new b.past) (sym said)
+            (partly-change map all i x within item b.status (is_by_place b.code) b.past gives))));
       }
       | else-not-is_same w ↦
           let as_before : renoted map x ≡ x = sym said ∙ c.is_same.ensures.same w.if-not-is_same.false ∙ sym c.entry-item.is in

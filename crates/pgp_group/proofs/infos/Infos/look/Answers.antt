@@ -16,4 +16,8 @@ returns-in-Ok-clause-ok c = λ g here is.
 
 pub returns-in-Ok-clause-kept : goal.returns-in-Ok-clause-kept
 returns-in-Ok-clause-kept c = λ g here is.
-    KeepsInfos-heard g c.args.self.now _ is c.mark_seen.ensures refl (ap (λ (h : Heard Preference). h.infos) (returns-in-Ok-clause-ok c g here is))
+    KeepsInfos-heard g c.args.self.now _ is c.mark_seen-in-Ok.ensures refl (ap (λ (h : Heard Preference). h.infos) (returns-in-Ok-clause-ok c g here is))
+
+pub returns-then-not-goes_on-clause-kept : goal.returns-then-not-goes_on-clause-kept
+returns-then-not-goes_on-clause-kept c = λ g here is.
+    KeepsInfos-heard g c.args.self.now _ is c.mark_seen.ensures refl (ap (λ (h : Heard Preference). h.infos) (c.in_ok-self.ensures g here is))

@@ -1,7 +1,7 @@
 use Rattle.pgp_group.proofs.Common.{List, [], ap, ◌∙◌, filter, Info, Heard, with_infos, Preference}
 use Rattle.pgp_group.specs.KeptInfos.{counts}
 use Rattle.pgp_group.proofs.InfosLemmas.{with_infos-last}
-use Rattle.pgp_group.proofs.heard.heard.Goals as goal
+use Rattle.pgp_group.proofs.heard.last_infos.Goals as goal
 
 pub returns : goal.returns
 returns c = λ g here.
