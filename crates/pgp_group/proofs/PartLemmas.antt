@@ -3,6 +3,7 @@ use Rattle.pgp_group.proofs.Common.{◌≡◌, List, [], ◌++◌, Option, Some,
 use Rattle.std.specs.Option.{option_map_or}
 use Rattle.pgp_info.specs.Prefers.{prefers_with as prefers_by}
 use Rattle.pgp_group.specs.Parts.{IsBestCopy}
+use Rattle.pgp_group.specs.Peering.{whole_best}
 use Rattle.pgp_group.specs.Prefers.{prefers}
 use Rattle.pgp_group.specs.declared.group.best_copy.BestCopy.{BestCopy}
 
@@ -13,6 +14,9 @@ best-is g found are = ap₂ best_info are.prefer are.infos
 
 pub states-whole : (g : GroupLog) (info : Info) → best g ≡ Some info → has_whole_log g info ≡ true → peer_states g ≡ map (peer_missing g info) (peers g info)
 states-whole g info is log = grind (arith, nat_tests)
+
+pub whole-best : (g : GroupLog) (info : Info) → best g ≡ Some info → has_whole_log g info ≡ true → whole_best g ≡ Some info
+whole-best g info is log = grind (arith, nat_tests)
 
 pub no-whole : (g : GroupLog) (info : Info) (copy : BestCopy) → best g ≡ Some info → has_whole_log g info ≡ false
     → copy.member ≡ Some info.member → copy.whole ≡ false → copy.states ≡ [] → IsBestCopy g copy

@@ -1,5 +1,5 @@
 -- Small logs of a group of three copies and of a group of three shards, of a code of data shards or of one of parts.
-use Rattle.std.specs.Prelude.{ℕ, List, [], ◌∷◌, ◌++◌, Some, None, Bool, map, codes}
+use Rattle.std.specs.Prelude.{ℕ, List, [], ◌∷◌, ◌++◌, Option, Some, None, Bool, false, map, option_map, codes}
 use Rattle.pgp_ids.specs.declared.entry.Entry.{Entry}
 use Rattle.pgp_ids.specs.declared.entry.Entry.TheVariants as entry
 use Rattle.pgp_ids.specs.declared.member.Member.{Member}
@@ -13,11 +13,15 @@ use Rattle.pgp_ids.specs.declared.peer.MissingObject.{MissingObject}
 use Rattle.pgp_ids.specs.declared.peer.PeerMissing.{PeerMissing}
 use Rattle.pgp_ids.specs.declared.peer.PeerState.{PeerState}
 use Rattle.pgp_ids.specs.declared.report.Info.{Info}
+use Rattle.pgp_ids.specs.declared.verdict.Verdict.{Verdict}
 use Rattle.pgp_ids.specs.declared.version.Version.{Version}
 use Rattle.pgp_ids.specs.Examples.{empty_copy}
 pub use Rattle.pgp_ids.specs.Examples.{at, in_slot}
-use Rattle.pgp_map.specs.Examples.{empty_step, grouped, part_of}
+use Rattle.pgp_map.specs.Examples.{empty_step, grouped, part_of, boot}
 use Rattle.pgp_sets.specs.Examples.{of_device, copies_group, shards_group, stands_on, copies_on_three, shards_on_three, take_down, resize, lies_on}
+use Rattle.pgp_group.specs.GroupLog.{group_in}
+use Rattle.pgp_group.specs.Heard.{heard}
+use Rattle.pgp_group.specs.View.{scratch}
 
 -- ---- maps
 
@@ -132,6 +136,53 @@ with_entries entries =
     maps (copies_on_three ∷ [])
     ++ infos_sent (copy_up_to 0 (at 1 3) ∷ copy 1 1 ∷ copy 2 1 ∷ [])
     ++ entries_of_first entries ∷ []
+
+-- an info of each copy, sent before new sizes opened an interval
+abbrev pub told_before : List Entry
+told_before = maps (copies_on_three ∷ resize 2 3 1 ∷ []) ++ infos_sent (copy 0 1 ∷ copy 1 1 ∷ copy 2 1 ∷ [])
+
+-- three equal copies, of which that of the acting primary isn't complete
+abbrev pub primary_incomplete : List Entry
+primary_incomplete = maps (copies_on_three ∷ []) ++ infos_sent (record (copy 0 1) { complete = false } ∷ copy 1 1 ∷ copy 2 1 ∷ [])
+
+-- three shards, of which the second lacks the last write and tells the entry of the one before
+abbrev pub differ_in_one_write : List Entry
+differ_in_one_write =
+    maps (shards_on_three ∷ [])
+    ++ infos_sent (shard_up_to 0 0 (at 1 2) ∷ shard_up_to 1 1 (at 1 1) ∷ shard_up_to 2 2 (at 1 2) ∷ [])
+    ++ entries_report shards_group (in_slot 1 1) (modify 1 (codes "a") ∷ []) ∷ []
+
+-- one of the two shards that went down is up again
+abbrev pub shard_back : List Entry
+shard_back = maps (two_shards_down ++ boot 4 (1 ∷ []) ∷ [])
+
+-- then each shard told of itself, and that one a second time since it came back
+abbrev pub heard_since : List Entry
+heard_since = shard_back ++ infos_sent (shard 0 0 3 ∷ shard 1 1 3 ∷ shard 3 1 3 ∷ shard 4 2 3 ∷ shard 1 1 4 ∷ [])
+
+-- ---- what a log says of a group: its verdict, the devices that it waits for, its best copy, what the others lack, its past
+-- intervals, the first epoch of the current one, and whom it has heard
+
+abbrev pub verdict_in : List Entry → PgId → Option Verdict
+verdict_in log pg = option_map (λ view. view.verdict) (scratch log pg)
+
+abbrev pub blocked_in : List Entry → PgId → Option (List ℕ)
+blocked_in log pg = option_map (λ view. view.blocked_by) (scratch log pg)
+
+abbrev pub best_in : List Entry → PgId → Option (Option Member)
+best_in log pg = option_map (λ view. view.best) (scratch log pg)
+
+abbrev pub missing_in : List Entry → PgId → Option (List PeerMissing)
+missing_in log pg = option_map (λ view. view.missing) (scratch log pg)
+
+abbrev pub intervals_in : List Entry → PgId → Option (List Past)
+intervals_in log pg = option_map (λ view. view.intervals) (scratch log pg)
+
+abbrev pub first_in : List Entry → PgId → Option ℕ
+first_in log pg = option_map (λ view. view.first) (scratch log pg)
+
+abbrev pub heard_in : List Entry → PgId → Option (List Info)
+heard_in log pg = option_map heard (group_in log pg)
 
 -- ---- a group that comes to serve
 

@@ -1,6 +1,8 @@
 //! A placement group, as the log so far tells of it.
 
-ghost use Rattle.std.specs.Prelude.{◌≡◌, ◌≤◌, ◌++◌, ◌||◌, ℕ, [], ◌∷◌, List, Some, None, true, not, nat_lt, length, IfOk, OnOk, OnErr};
+ghost use Rattle.std.specs.Prelude.{◌≡◌, ◌≤◌, ◌++◌, ◌||◌, ℕ, [], ◌∷◌, List, Some, None, true, false, not, nat_eq, nat_lt, length, IfOk, OnOk, OnErr};
+ghost use Rattle.std.specs.List.{list_any};
+ghost use Rattle.std.specs.Option.{option_map_or};
 ghost use Rattle.pgp_code.specs.AnyCode.{enough_of, is_by_place};
 ghost use Rattle.pgp_code.specs.declared.any.AnyCode.{AnyCode as Code};
 ghost use Rattle.pgp_interval.specs.History.{History};
@@ -18,18 +20,19 @@ ghost use Rattle.pgp_map.specs.MapOf.{IsMapOf};
 ghost use Rattle.pgp_map.specs.Pools.{has_group, is_same_group};
 ghost use Rattle.pgp_group.specs.Entries.{inc_of, incs_of};
 ghost use Rattle.pgp_group.specs.GroupHistory.{EpochsAscend, made_at};
-ghost use Rattle.pgp_group.specs.GroupLog.{GroupLog, cleans, incs};
+ghost use Rattle.pgp_group.specs.GroupLog.{GroupLog, cleans, group_in, incs};
 ghost use Rattle.pgp_group.specs.GroupOf.{Keeps, IsGroupOf, IsSilent, IsThere, TellsNothingAhead};
 ghost use Rattle.pgp_group.specs.Heard.{les};
 ghost use Rattle.pgp_group.specs.KeptPrior.{IsReckoned, KeepsPrior};
 ghost use Rattle.pgp_group.specs.Parts.{AreHeard, AreLogsHeard, IsBestCopy};
 ghost use Rattle.pgp_group.specs.Peering.{prior as prior_of};
 ghost use Rattle.pgp_group.specs.Present.{IsPresent};
+ghost use Rattle.pgp_group.specs.Reaching.{reaching};
+ghost use Rattle.pgp_group.specs.Touched.{names};
 ghost use Rattle.pgp_group.specs.Verdict.{is_waiting, verdict as verdict_of};
 ghost use Rattle.pgp_group.specs.View.{view_of, scratch};
 
 mod best_copy;
-mod names;
 mod next;
 
 use self::best_copy::BestCopy;
@@ -40,7 +43,7 @@ use super::kept_prior::KeptPrior;
 use super::named_devices::NamedDevices;
 use super::reports::Reports;
 use pgp_code::{AnyCode, Recoverable};
-use pgp_ids::{Entry, Epoch, Info, Membership, PgId, Report, Seq, Verdict, View};
+use pgp_ids::{Entry, Epoch, Info, Membership, OsdId, PgId, Report, Seq, Verdict, View};
 use pgp_info::Preference;
 use pgp_interval::{Intervals, acting_slots};
 use pgp_map::OsdMap;
@@ -193,6 +196,27 @@ impl Group {
         self.hear_more(map, first, &current)?;
         self.reckoned.look(map, &self.intervals, self.infos.les)?;
         self.view_of_heard(map, count, first, current)
+    }
+
+    /// Whether the device stands in up or acting of a past interval of the group, or sent a report of it, counted or not. It
+    /// takes no memory. It is the same by later maps, as long as the group lies as before.
+    pub fn names(&self, osd: OsdId) -> bool
+        ensures later { (log : List AnyEntry) (pg : Id) (epoch : ℕ) → IsGroupOf log pg (reaching epoch self.now)
+            → result ≡ option_map_or (names osd) (group_in log pg) false }
+        ensures now { (log : List AnyEntry) (pg : Id) → IsGroupOf log pg self.now
+            → result ≡ option_map_or (names osd) (group_in log pg) false }
+    {
+        self.named.has(osd)
+    }
+
+    /// The devices of which [`names`](Self::names) says so.
+    pub fn named(&self) -> &[OsdId]
+        ensures later { (log : List AnyEntry) (pg : Id) (epoch : ℕ) → IsGroupOf log pg (reaching epoch self.now)
+            → (osd : ℕ) → list_any (nat_eq osd) result.now ≡ option_map_or (names osd) (group_in log pg) false }
+        ensures now { (log : List AnyEntry) (pg : Id) → IsGroupOf log pg self.now
+            → (osd : ℕ) → list_any (nat_eq osd) result.now ≡ option_map_or (names osd) (group_in log pg) false }
+    {
+        self.named.as_slice()
     }
 
     /// Hears the infos and reports that came since, and no more those that don't count any more. The best member's log follows

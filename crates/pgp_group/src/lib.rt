@@ -10,7 +10,6 @@
 //! alone.
 #![tactic(auto)]
 
-mod copies;
 mod counted;
 mod device_facts;
 mod group;
@@ -21,7 +20,6 @@ mod kept_prior;
 pub mod laws;
 mod logs;
 mod named_devices;
-mod peers;
 mod reports;
 
 pub use counted::{is_counted, primary_facts};

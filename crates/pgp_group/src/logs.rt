@@ -1,6 +1,6 @@
 //! The logs of a group's members, by those of their reports that count.
 
-ghost use Rattle.std.specs.Prelude.{◌≡◌, ℕ, ◌≤◌, ◌++◌, [], Bool, true, List, All, filter, option_map, if◌then◌else◌, IfOk, OnOk};
+ghost use Rattle.std.specs.Prelude.{◌≡◌, ℕ, ◌≤◌, ◌++◌, [], Bool, true, List, All, filter, option_map, if◌then◌else◌, OnOk};
 ghost use Rattle.std.specs.List.{position};
 ghost use Rattle.std.specs.Option.{option_copied};
 ghost use Rattle.pgp_ids.specs.Member.{is_same_member};
@@ -30,21 +30,6 @@ pub(crate) struct CountedLog {
 }
 
 impl CountedLog {
-    /// The log of a member by this report, the first of it that counts.
-    fn of_first(alloc: Global, report: &Report) -> Result<Self, AllocError>
-        ensures member { IfOk result (λ log. log.member ≡ report.now.member) }
-        ensures stamp { IfOk result (λ log. log.stamp ≡ report.now.stamp) }
-        ensures log { IfOk result (λ log. log.log.entries ≡ by_number report.now.log) }
-    {
-        let mut first = CountedLog {
-            member: report.member,
-            stamp: report.stamp,
-            log: MemberLog::new(alloc),
-        };
-        first.add(report)?;
-        Ok(first)
-    }
-
     /// Adds the entries of a report that the member sent after the others.
     fn add(&mut self, report: &Report) -> Result<(), AllocError>
         ensures member { self.new.member ≡ self.old.member }
@@ -121,8 +106,13 @@ impl Logs {
         match self.place_of(report.member) {
             Some(place) => self.of_members[place].add(report),
             None => {
-                self.of_members.push(CountedLog::of_first(alloc, report)?)?;
-                Ok(())
+                let mut first = CountedLog {
+                    member: report.member,
+                    stamp: report.stamp,
+                    log: MemberLog::new(alloc),
+                };
+                first.add(report)?;
+                Ok(self.of_members.push(first)?)
             }
         }
     }

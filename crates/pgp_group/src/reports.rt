@@ -1,15 +1,14 @@
 //! The reports of log entries of a group, and the logs of its members by them.
 
-ghost use Rattle.std.specs.Prelude.{◌≡◌, [], OnOk, OnErr};
+ghost use Rattle.std.specs.Prelude.{◌≡◌, [], IfOk, OnOk, OnErr};
 ghost use Rattle.pgp_map.specs.Map.{epoch as epoch_of};
 ghost use Rattle.pgp_group.specs.GroupLog.{GroupLog, incs, reports};
 ghost use Rattle.pgp_group.specs.KeptReports.{KeepsReports, IsReportedBy, AreCounted, AreLogsOf};
 ghost use Rattle.pgp_group.specs.Present.{IsPresent};
 
-use super::copies::copy_of;
 use super::inbox::Inbox;
 use super::logs::Logs;
-use pgp_ids::{Epoch, Report};
+use pgp_ids::{Epoch, LogEntry, Report, Seq};
 use pgp_map::OsdMap;
 use std::alloc::{AllocError, Global};
 
@@ -97,4 +96,31 @@ impl Reports {
         self.logs = Logs::new(alloc);
         self.inbox.mark_unseen();
     }
+}
+
+/// A copy of the report.
+fn copy_of(alloc: Global, report: &Report) -> Result<Report, AllocError>
+    ensures { IfOk result (λ copy. copy ≡ report.now) }
+{
+    let log = copy_of_log(alloc, report.log.as_slice())?;
+    Ok(Report {
+        pg: report.pg,
+        member: report.member,
+        stamp: report.stamp,
+        log: Seq::from_vec(log),
+    })
+}
+
+fn copy_of_log(alloc: Global, log: &[LogEntry]) -> Result<Vec<LogEntry>, AllocError>
+    ensures { IfOk result (λ copy. copy.items ≡ log.now) }
+{
+    let mut copy = Vec::new(alloc);
+    for entry in log {
+        copy.push(LogEntry {
+            version: entry.version,
+            change: entry.change,
+            object: entry.object.clone()?,
+        })?;
+    }
+    Ok(copy)
 }

@@ -1,6 +1,6 @@
 //! Whose copy of a group is the best, and how the other copies compare with it.
 
-ghost use Rattle.std.specs.Prelude.{◌≡◌, ◌++◌, [], List, Some, true, false, IfOk};
+ghost use Rattle.std.specs.Prelude.{◌≡◌, ◌++◌, [], List, true, false, map, IfOk};
 ghost use Rattle.pgp_ids.specs.Member.{is_before};
 ghost use Rattle.pgp_ids.specs.declared.log_entry.LogEntry.{LogEntry};
 ghost use Rattle.pgp_ids.specs.declared.report.Info.{Info as Sent};
@@ -8,16 +8,15 @@ ghost use Rattle.pgp_lists.specs.Ordered.{ascending};
 ghost use Rattle.pgp_prior.specs.Members.{members_of};
 ghost use Rattle.pgp_missing.specs.Kept.{IsLogOf};
 ghost use Rattle.pgp_missing.specs.Log.{is_whole};
+ghost use Rattle.pgp_missing.specs.Missing.{peer_state};
 ghost use Rattle.pgp_group.specs.GroupLog.{GroupLog};
 ghost use Rattle.pgp_group.specs.GroupOf.{Keeps};
-ghost use Rattle.pgp_group.specs.Heard.{reported};
 ghost use Rattle.pgp_group.specs.Parts.{AreHeard, AreLogsHeard, IsBestCopy};
-ghost use Rattle.pgp_group.specs.Peering.{best as best_of, peer_states};
+ghost use Rattle.pgp_group.specs.Peering.{others_heard};
 
 use super::Group;
-use crate::peers::states;
 use pgp_code::Recoverable;
-use pgp_ids::{Info, Member, Membership, PeerMissing, Seq};
+use pgp_ids::{Member, Membership, PeerMissing, Seq};
 use pgp_info::{Best, Preference};
 use pgp_lists::insert_in_order;
 use pgp_missing::MemberLog;
@@ -56,30 +55,14 @@ impl Group {
         if !log.whole() {
             return Ok(no_log_to_follow(self.alloc, Some(best.member)));
         }
+        let by_place = self.intervals.code().by_place();
+        let members = present_members(self.alloc, by_place, current)?;
+        let states = states(self.alloc, log, best.member, members.as_slice(), heard)?;
         Ok(BestCopy {
             member: Some(best.member),
             whole: true,
-            states: self.states(current, log, best.member, heard)?,
+            states: Seq::from_vec(states),
         })
-    }
-
-    /// The states of the members of up and acting that were heard, except for the best one, by its log, which is whole.
-    fn states(
-        &self,
-        current: &Membership,
-        log: &MemberLog,
-        best: Member,
-        heard: &Best<Preference>,
-    ) -> Result<Seq<PeerMissing>, AllocError>
-        requires { (info : Sent) (reported : List LogEntry) → IsLogOf info reported log.now → is_whole info reported ≡ true }
-        ensures { IfOk result (λ states. (g : GroupLog) (info : Sent) → Keeps g self.now → current.now ≡ g.history.current
-            → AreHeard g heard.now → best_of g ≡ Some info → info.member ≡ best
-            → IsLogOf info (reported g info.member) log.now → states ≡ peer_states g) }
-    {
-        let by_place = self.intervals.code().by_place();
-        let members = present_members(self.alloc, by_place, current)?;
-        let states = states(self.alloc, log, best, members.as_slice(), heard)?;
-        Ok(Seq::from_vec(states))
     }
 }
 
@@ -111,4 +94,30 @@ fn present_members(
         insert_in_order(&mut members, member)?;
     }
     Ok(members)
+}
+
+/// The states of those of these members that were heard, except for the best one, by its log, which is whole.
+fn states(
+    alloc: Global,
+    log: &MemberLog,
+    best: Member,
+    members: &[Member],
+    heard: &Best<Preference>,
+) -> Result<Vec<PeerMissing>, AllocError>
+    requires { (info : Sent) (reported : List LogEntry) → IsLogOf info reported log.now → is_whole info reported ≡ true }
+    ensures { IfOk result (λ states. (info : Sent) (reported : List LogEntry) → IsLogOf info reported log.now → info.member ≡ best
+        → states.items ≡ map (λ peer. record { member = peer.member; state = peer_state info reported peer }) (others_heard members.now heard.now.infos info)) }
+{
+    let mut states = Vec::new(alloc);
+    for member in members {
+        if *member != best {
+            if let Some(peer) = heard.info_of(member) {
+                states.push(PeerMissing {
+                    member: peer.member,
+                    state: log.missing_of(alloc, peer)?,
+                })?;
+            }
+        }
+    }
+    Ok(states)
 }

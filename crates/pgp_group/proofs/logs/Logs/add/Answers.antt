@@ -1,4 +1,4 @@
-use Rattle.pgp_group.proofs.Common.{◌≡◌, List, [], ◌++◌, true, if◌then◌else◌, ap, ap₂, subst, sym, ◌∙◌, All-set, position-Some, on_ok_weaker, is_same_member, by_number, is_of, member_entries, CountedLog}
+use Rattle.pgp_group.proofs.Common.{◌≡◌, List, [], ◌++◌, true, if◌then◌else◌, ap, ap₂, subst, sym, ◌∙◌, All-set, position-Some, on_ok_weaker, is_same_member, by_number, is_of, member_entries, CountedLog, KeptLog}
 use Rattle.pgp_group.proofs.ReportsLemmas.{added, added-first}
 use Rattle.pgp_group.proofs.PeerLemmas.{same_member}
 use Rattle.pgp_group.proofs.logs.Logs.add.Goals as goal
@@ -30,7 +30,7 @@ pub returns-in_ok-push-in-None-clause-logs : goal.returns-in_ok-push-in-None-cla
 returns-in_ok-push-in-None-clause-logs c = λ member reported is.
     let logs = c.args.self.now.of_members.items in
     let report = c.args.report.now in
-    let first = c.in_ok-of_first-in-None.field-0 in
-    let of = c.in_ok-of_first-in-None.ensures in
+    let first = c.add-in-None.new.self in
+    let of = c.in_ok-add-in-None.ensures.log [] (ap (λ (l : KeptLog). l.entries) c.new.ensures) in
     subst (λ (l : List CountedLog). member_entries member l ≡ by_number (reported ++ (if is_same_member report.member member then report.log else []))) (sym c.in_ok-push-in-None.ensures.items)
-    (added-first report.member member logs first report.log reported (sym c.place_of.ensures ∙ c.in-None.is) of.member of.log is)
+    (added-first report.member member logs first report.log reported (sym c.place_of.ensures ∙ c.in-None.is) c.add-in-None.ensures.member of is)

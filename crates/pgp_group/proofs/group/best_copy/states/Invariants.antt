@@ -1,5 +1,5 @@
 use Rattle.pgp_group.proofs.Common.{◌≡◌, List, map, take, LogEntry, Info, IsLogOf, peer_state, others_heard}
-use Rattle.pgp_group.proofs.peers.states.Given as goal
+use Rattle.pgp_group.proofs.group.best_copy.states.Given as goal
 
 abbrev pub invariant-loop-member : goal.invariant-loop-member
 invariant-loop-member l =

@@ -1,8 +1,8 @@
 use Rattle.pgp_group.proofs.Common.{◌≡◌, ◌+◌, ◌++◌, [], ◌∷◌, List, Some, None, true, false, ap, map, refl, subst, sym, take, ◌∙◌, arith, nat_tests, if◌then◌else◌, map_push, is_same_member, Member, PeerMissing, Info, peer_state, others_heard}
 use Rattle.pgp_group.specs.Peering.{info_from}
 use Rattle.pgp_group.proofs.PeerLemmas.{others-one, others-none}
-use Rattle.pgp_group.proofs.peers.states.Goals as goal
-use Rattle.pgp_group.proofs.peers.states.Goals.{then-ne+in-Some+in_ok-missing_of+in_ok-push, then-ne+in_default, else-ne}
+use Rattle.pgp_group.proofs.group.best_copy.states.Goals as goal
+use Rattle.pgp_group.proofs.group.best_copy.states.Goals.{then-ne+in-Some+in_ok-missing_of+in_ok-push, then-ne+in_default, else-ne}
 
 pub loop-member-preserved : goal.loop-member-preserved
 loop-member-preserved c = λ info reported is same.

@@ -1,6 +1,6 @@
 use Rattle.pgp_group.proofs.Common.{◌++◌, [], ◌∷◌, ◌∙◌}
 use Rattle.pgp_group.proofs.Lists.{take-next}
-use Rattle.pgp_group.proofs.copies.copy_of_log.Goals as goal
+use Rattle.pgp_group.proofs.reports.copy_of_log.Goals as goal
 
 pub loop-entry-preserved : goal.loop-entry-preserved
 loop-entry-preserved c =
