@@ -38,10 +38,18 @@ use Rattle.pgp_group.proofs.PeerLemmas.{info_of-is}
 use Rattle.pgp_reasons.specs.Smallest.{AreWays}
 use Rattle.pgp_reasons.specs.Ways.{is_relieved}
 use Rattle.pgp_reasons.specs.declared.ways.Ways.{Ways}
-use Rattle.pgp_reasons.specs.Reasons.{no_ways, AreWaysOf, IsViewed, IsAskedOf}
+use Rattle.pgp_reasons.specs.Reasons.{no_ways, AreWaysOf, IsViewed}
 use Rattle.pgp_reasons.specs.Reported.{infos_in}
 
 -- ---- the group of a view
+
+-- the view is that of the group, by this log, whose map is the last one, and this code
+pub record IsAskedOf (log : List Entry) (code : AnyCode) (map : OsdMap) (pg : PgId) (view : View) (g : GroupLog) : Type 0 where
+  pub log_is : g.log ≡ log
+  pub pg_is : g.pg ≡ pg
+  pub code_is : g.history.code ≡ code
+  pub map_is : IsMapOf (incs g) map
+  pub view_is : view ≡ view_of g
 
 group-with : (log : List Entry) (pg : PgId) (g : GroupLog) (spec : PoolSpec) → pool (incs_of log) pg.pool ≡ Some spec → group_in log pg ≡ Some g
     → group_with log pg (history_of (incs_of log) pg spec) ≡ g

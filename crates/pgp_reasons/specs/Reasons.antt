@@ -1,7 +1,6 @@
 -- Why a placement group doesn't serve, and what would end its waiting.
 use Rattle.std.specs.Prelude.{◌≡◌, List, [], Option, Some, true, false}
 use Rattle.std.specs.Option.{option_map_or}
-use Rattle.pgp_code.specs.declared.any.AnyCode.{AnyCode}
 use Rattle.pgp_ids.specs.declared.entry.Entry.{Entry}
 use Rattle.pgp_ids.specs.declared.pg_id.PgId.{PgId}
 use Rattle.pgp_ids.specs.declared.view.View.{View}
@@ -13,7 +12,7 @@ use Rattle.pgp_group.specs.Entries.{incs_of}
 use Rattle.pgp_group.specs.GroupLog.{GroupLog, cleans, group_in, incs}
 use Rattle.pgp_group.specs.Heard.{les, heard, reported}
 use Rattle.pgp_group.specs.Peering.{past, prior, best}
-use Rattle.pgp_group.specs.View.{scratch, view_of}
+use Rattle.pgp_group.specs.View.{scratch}
 use Rattle.pgp_reasons.specs.Blocking.{blocking_of, clean_of}
 use Rattle.pgp_reasons.specs.Copies.{copies_of}
 use Rattle.pgp_reasons.specs.Gaps.{gaps_in}
@@ -75,11 +74,3 @@ pub record IsViewed (log : List Entry) (map : OsdMap) (pg : PgId) (view : View) 
   pub map_is : IsMapOf (incs_of log) map
   pub group_is : group_in log pg ≡ Some g
   pub view_is : scratch log pg ≡ Some view
-
--- the same, with the code of the group's pool
-pub record IsAskedOf (log : List Entry) (code : AnyCode) (map : OsdMap) (pg : PgId) (view : View) (g : GroupLog) : Type 0 where
-  pub log_is : g.log ≡ log
-  pub pg_is : g.pg ≡ pg
-  pub code_is : g.history.code ≡ code
-  pub map_is : IsMapOf (incs g) map
-  pub view_is : view ≡ view_of g

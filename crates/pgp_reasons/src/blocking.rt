@@ -1,12 +1,10 @@
 //! The past intervals for which a group has to wait, and what is known of each.
 
 ghost use Rattle.std.specs.Prelude.{◌≡◌, map as mapped, IfOk};
-ghost use Rattle.std.specs.Option.{option_copied};
-ghost use Rattle.pgp_lists.specs.Last.{last_where};
 ghost use Rattle.pgp_map.specs.Held.{held_lost_at};
 ghost use Rattle.pgp_prior.specs.Blocks.{matters};
 ghost use Rattle.pgp_sets.specs.Status.{held_status};
-ghost use Rattle.pgp_reasons.specs.Blocking.{blocking_of, clean_of, is_in_interval, last_within, blocking_by, was_clean_in};
+ghost use Rattle.pgp_reasons.specs.Blocking.{blocking_of, clean_of, last_within, blocking_by, was_clean_in};
 
 use super::fates::IntervalNow;
 use super::lacking::lacking;
@@ -81,23 +79,16 @@ pub(crate) fn clean_of(
     ensures { IfOk result (λ clean. clean ≡ clean_of code.now (held_status map.now) (held_lost_at map.now)
         (mapped (λ info. info.last_epoch_clean) infos.now) les past.now) }
 {
-    match last_clean_interval(infos, les, past) {
-        Some(interval) => Ok(Some(IntervalNow::of(alloc, code, map, map, interval)?)),
-        None => Ok(None),
-    }
-}
-
-/// The last of the past intervals in which the group was clean, of those that it has to reckon with.
-fn last_clean_interval<'a>(infos: &[Info], les: Epoch, past: &'a [Past]) -> Option<&'a Past>
-    ensures { option_copied result ≡ last_where (was_clean_in (mapped (λ info. info.last_epoch_clean) infos.now) les) past.now }
-{
     let mut last = None;
     for interval in past {
         if was_clean_in(infos, les, interval) {
             last = Some(interval);
         }
     }
-    last
+    match last {
+        Some(interval) => Ok(Some(IntervalNow::of(alloc, code, map, map, interval)?)),
+        None => Ok(None),
+    }
 }
 
 /// Whether the group was clean in the interval, and has to reckon with its writes.
@@ -122,13 +113,6 @@ fn last_clean(infos: &[Info], interval: &Past) -> Option<Epoch>
     infos
         .iter()
         .map(|info| info.last_epoch_clean)
-        .filter(|epoch| is_in(interval, *epoch))
+        .filter(|epoch| interval.first <= *epoch && *epoch <= interval.last)
         .max()
-}
-
-/// Whether the epoch lies within the interval.
-fn is_in(interval: &Past, epoch: Epoch) -> bool
-    ensures { result ≡ is_in_interval interval.now epoch }
-{
-    interval.first <= epoch && epoch <= interval.last
 }

@@ -1,10 +1,8 @@
-//! What the log says of a group, and whom the group has heard.
+//! What the log says of a group.
 
-ghost use Rattle.std.specs.Prelude.{◌≡◌, map as mapped, IfOk, OnOk};
+ghost use Rattle.std.specs.Prelude.{◌≡◌, map as mapped, IfOk};
 ghost use Rattle.std.specs.Arc.{arc_value};
-ghost use Rattle.pgp_info.specs.Heard.{with_info};
-ghost use Rattle.pgp_group.specs.GroupLog.{GroupLog, infos as told};
-ghost use Rattle.pgp_group.specs.Heard.{heard};
+ghost use Rattle.pgp_group.specs.GroupLog.{GroupLog};
 ghost use Rattle.pgp_group.specs.Present.{IsPresent};
 ghost use Rattle.pgp_reasons.specs.Reported.{infos_in, info_in, entries_in};
 
@@ -39,34 +37,6 @@ fn info_in(entry: &Entry, pg: &PgId) -> Option<Info>
         Entry::Info(info) if info.pg == *pg => Some(*info),
         _ => None,
     }
-}
-
-/// The last info of each member that has one which counts, by the last map and the first epoch of the current interval.
-pub(crate) fn heard(
-    alloc: Global,
-    map: &OsdMap,
-    infos: &[Info],
-    first: Epoch,
-) -> Result<Seq<Info>, AllocError>
-    ensures { IfOk result (λ last. (g : GroupLog) → IsPresent g map.now first → infos.now ≡ told g → last ≡ heard g) }
-{
-    let mut last = Vec::new(alloc);
-    for info in infos {
-        if is_counted(map, first, info.member, info.stamp) {
-            put(&mut last, info)?;
-        }
-    }
-    Ok(Seq::from_vec(last))
-}
-
-/// Replaces the info that the member sent before by this one.
-fn put(infos: &mut Vec<Info>, info: &Info) -> Result<(), AllocError>
-    ensures { OnOk result (infos.new.items ≡ with_info info.now infos.old.items) }
-{
-    infos.reserve(1)?;
-    infos.retain(|other| other.member != info.member);
-    infos.push_reserved(*info);
-    Ok(())
 }
 
 /// The log entries that the entry reports of the group's member, if it is such a report and it counts.

@@ -1,15 +1,20 @@
 //! What the sets of devices in an explanation are worth, as functions with nothing to do: what each says is its contract.
 
 ghost use Rattle.std.specs.Prelude.{◌≡◌, ℕ, List, [], ◌∷◌, ◌++◌, ◌&&◌, ◌||◌, not, true, false, length, nat_le, count_by, Contains};
+ghost use Rattle.std.specs.List.{list_any};
 ghost use Rattle.pgp_ids.specs.declared.entry.Entry.TheVariants as entry;
 ghost use Rattle.pgp_ids.specs.declared.incremental.Incremental.{Incremental};
+ghost use Rattle.pgp_ids.specs.declared.log_entry.LogEntry.{LogEntry};
+ghost use Rattle.pgp_ids.specs.declared.report.Info.{Info};
 ghost use Rattle.pgp_code.specs.Pool.{shards};
+ghost use Rattle.pgp_missing.specs.Log.{has_number, is_in_log};
 ghost use Rattle.pgp_prior.specs.Examples.{lay_on, with_statuses};
 ghost use Rattle.pgp_sets.specs.declared.status.Status.TheVariants.{Down, Gone};
 ghost use Rattle.pgp_group.specs.GroupLog.{GroupLog};
 ghost use Rattle.pgp_group.specs.Later.{IsAfter};
 ghost use Rattle.pgp_group.specs.Peering.{prior};
 ghost use Rattle.pgp_reasons.specs.Fates.{writes_by};
+ghost use Rattle.pgp_reasons.specs.Gaps.{gaps_in, is_in_gap, AreApart};
 ghost use Rattle.pgp_reasons.specs.GroupWays.{destroyed_osds, is_down_with, ways, GoesWay};
 ghost use Rattle.pgp_reasons.specs.Price.{price_by};
 ghost use Rattle.pgp_reasons.specs.Reasons.{AreWaysOf};
@@ -89,4 +94,13 @@ pub fn prices()
         (lay_on ∷ [])).unreadable ≡ true }
     ensures destroyed { writes_by (shards 2) (status_after [] (2 ∷ []) (with_statuses Gone Down)) lay_on ≡ writes.Gone }
     ensures started { writes_by (shards 2) (status_after (2 ∷ []) [] (with_statuses Gone Down)) lay_on ≡ writes.Readable }
+{}
+
+/// A number lies in a gap exactly where it is one of the member's log by its info and no entry has it which the member
+/// reported. Gaps stand in ascending order, and between two of them a number is left out.
+#[tactic(auto, using(crate::proofs::GapLawLemmas::gap_laws))]
+pub fn each_number_that_is_lacked_lies_in_a_gap()
+    ensures each { (info : Info) (reported : List LogEntry) (v : ℕ)
+        → list_any (is_in_gap v) (gaps_in info reported) ≡ (is_in_log info v && not (has_number v reported)) }
+    ensures apart { (info : Info) (reported : List LogEntry) → AreApart (gaps_in info reported) }
 {}

@@ -12,21 +12,17 @@
 #![tactic(auto)]
 
 mod blocking;
-mod changed_statuses;
 mod copies;
 mod enough;
 mod fates;
 mod gap;
-pub mod gap_laws;
 mod gaps;
 mod heard;
 mod lacking;
 pub mod laws;
-mod leave_out;
 mod price;
 mod reasons;
 mod relief;
-mod search;
 mod set_walk;
 mod shape;
 mod short;

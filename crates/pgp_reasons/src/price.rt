@@ -2,16 +2,13 @@
 
 ghost use Rattle.std.specs.Prelude.{◌≡◌, List, IfOk};
 ghost use Rattle.pgp_ids.specs.declared.entry.Entry.{Entry};
-ghost use Rattle.pgp_map.specs.Held.{held_lost_at};
-ghost use Rattle.pgp_sets.specs.Status.{held_status};
 ghost use Rattle.pgp_group.specs.GroupLog.{GroupLog};
-ghost use Rattle.pgp_reasons.specs.Price.{concerns, price, price_by, slots_left};
+ghost use Rattle.pgp_reasons.specs.Price.{concerns, price, slots_left};
 ghost use Rattle.pgp_reasons.specs.Reasons.{IsViewed};
-ghost use Rattle.pgp_reasons.specs.Ways.{status_after};
 
 use super::blocking::matters;
-use super::changed_statuses::ChangedStatuses;
 use super::fates::{IntervalNow, add_held, are_held};
+use super::relief::ChangedStatuses;
 use pgp_code::{AnyCode, Recoverable};
 use pgp_ids::{Epoch, OsdId, Past, PgId, Seq, SlotSet, View};
 use pgp_map::OsdMap;
@@ -51,22 +48,6 @@ pub fn price_of(
     };
     let code = AnyCode::of_pool(pool.kind);
     let past = view.intervals.as_slice();
-    price_by(alloc, &code, map, view.les, past, starts, losses)
-}
-
-/// What the way costs a group of a pool with this code and with these past intervals, which last began to serve in the epoch `les`.
-fn price_by(
-    alloc: Global,
-    code: &AnyCode,
-    map: &OsdMap,
-    les: Epoch,
-    past: &[Past],
-    starts: &[OsdId],
-    losses: &[OsdId],
-) -> Result<Price, AllocError>
-    ensures { IfOk result (λ price. price ≡ price_by code.now (held_status map.now)
-        (status_after starts.now losses.now (held_status map.now)) (held_lost_at map.now) les past.now) }
-{
     let after = ChangedStatuses {
         statuses: map,
         these: &[],
@@ -75,13 +56,13 @@ fn price_by(
     };
     let mut intervals = Vec::new(alloc);
     for interval in past {
-        if concerns(code, map, &after, les, interval) {
-            intervals.push(IntervalNow::of(alloc, code, &after, map, interval)?)?;
+        if concerns(&code, map, &after, view.les, interval) {
+            intervals.push(IntervalNow::of(alloc, &code, &after, map, interval)?)?;
         }
     }
     Ok(Price {
         intervals: Seq::from_vec(intervals),
-        unreadable: !code.enough(slots_left(code, &after, past)),
+        unreadable: !code.enough(slots_left(&code, &after, past)),
     })
 }
 

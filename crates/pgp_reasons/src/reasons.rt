@@ -3,18 +3,20 @@ ghost use Rattle.std.specs.Arc.{arc_value};
 ghost use Rattle.std.specs.Option.{option_copied};
 ghost use Rattle.pgp_group.specs.GroupLog.{GroupLog};
 ghost use Rattle.pgp_group.specs.Peering.{info_from};
-ghost use Rattle.pgp_reasons.specs.Reasons.{AreReasons, IsViewed, IsAskedOf};
+ghost use Rattle.pgp_reasons.specs.Reasons.{AreReasons, IsViewed};
 
 use super::blocking::{Blocking, clean_of, intervals_that_block};
 use super::copies::{Copies, copies_of};
 use super::fates::IntervalNow;
 use super::gap::Gap;
 use super::gaps::gaps;
-use super::heard::{heard, infos_in};
+use super::heard::infos_in;
 use super::short::{Short, short_of};
 use super::ways::{Ways, no_ways, ways_of};
 use pgp_code::AnyCode;
+use pgp_group::last_infos;
 use pgp_ids::{Entry, Info, Member, PgId, Seq, View};
+use pgp_info::{Best, Preference};
 use pgp_map::OsdMap;
 use std::alloc::{AllocError, Global};
 use std::sync::Arc;
@@ -58,33 +60,21 @@ pub fn reasons_of(
         return Ok(nothing(alloc));
     };
     let code = AnyCode::of_pool(pool.kind);
-    reasons_by(alloc, &code, map, entries, &pg, view)
-}
-
-/// The same for a group of a pool with this code.
-fn reasons_by(
-    alloc: Global,
-    code: &AnyCode,
-    map: &OsdMap,
-    entries: &[Arc<Entry>],
-    pg: &PgId,
-    view: &View,
-) -> Result<Reasons, AllocError>
-    ensures { IfOk result (λ reasons. (g : GroupLog) → IsAskedOf (mapped arc_value entries.now) code.now map.now pg.now view.now g → AreReasons g reasons) }
-{
-    let infos = infos_in(alloc, entries, pg)?;
+    let infos = infos_in(alloc, entries, &pg)?;
     let infos = infos.as_slice();
     let past = view.intervals.as_slice();
-    let heard = heard(alloc, map, infos, view.first)?;
-    let best = info_of_best(heard.as_slice(), view.best);
-    let gaps = gaps(alloc, map, entries, pg, view.first, best)?;
-    let copies = copies_of(alloc, code, best, heard.as_slice())?;
-    let blocking = intervals_that_block(alloc, code, map, infos, view.les, past)?;
-    let ways = ways_of(alloc, code, map, view)?;
-    let clean = clean_of(alloc, code, map, infos, view.les, past)?;
-    let short = short_of(alloc, code, map, view)?;
+    // Which copies the pool prefers plays no part: the view names the best.
+    let by_any = Preference::of_pool(false, None);
+    let heard = last_infos(alloc, map, view.first, infos, by_any)?;
+    let best = info_of_best(&heard, view.best);
+    let gaps = gaps(alloc, map, entries, &pg, view.first, best)?;
+    let copies = copies_of(alloc, &code, best, heard.infos())?;
+    let blocking = intervals_that_block(alloc, &code, map, infos, view.les, past)?;
+    let ways = ways_of(alloc, &code, map, view)?;
+    let clean = clean_of(alloc, &code, map, infos, view.les, past)?;
+    let short = short_of(alloc, &code, map, view)?;
     Ok(Reasons {
-        heard,
+        heard: Seq::from_vec(heard.infos().to_vec(alloc)?),
         blocking,
         ways,
         clean,
@@ -94,21 +84,14 @@ fn reasons_by(
     })
 }
 
-/// The member's info, if there is a member and it has one.
-fn info_of_best(infos: &[Info], member: Option<Member>) -> Option<&Info>
-    ensures { option_copied result ≡ option_and_then (info_from infos.now) member }
+/// The member's info, if there is a member and it was heard.
+fn info_of_best(heard: &Best<Preference>, member: Option<Member>) -> Option<&Info>
+    ensures { option_copied result ≡ option_and_then (info_from heard.now.infos) member }
 {
     match member {
-        Some(member) => info_of(infos, member),
+        Some(member) => heard.info_of(&member),
         None => None,
     }
-}
-
-/// The member's info, if it has one.
-fn info_of(infos: &[Info], member: Member) -> Option<&Info>
-    ensures { option_copied result ≡ info_from infos.now member }
-{
-    infos.iter().find(|info| info.member == member)
 }
 
 /// No reasons.

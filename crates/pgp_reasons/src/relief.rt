@@ -11,13 +11,12 @@ ghost use Rattle.pgp_group.specs.Peering.{prior};
 ghost use Rattle.pgp_reasons.specs.GroupWays.{is_down_with, GoesWay};
 ghost use Rattle.pgp_reasons.specs.Reasons.{IsViewed};
 
-use super::changed_statuses::ChangedStatuses;
 use super::enough::Enough;
 use pgp_code::{AnyCode, Recoverable};
 use pgp_ids::{Epoch, OsdId, Past, PgId, View};
 use pgp_map::OsdMap;
 use pgp_prior::blocks;
-use pgp_sets::StatusOf;
+use pgp_sets::{Status, StatusOf};
 
 /// Whether the group of this view is not down once these devices booted and those were declared lost, where the view is by a log
 /// whose last map is this one. The same holds after the next map, if that boots only the ones, declares only the others lost at its
@@ -39,6 +38,36 @@ pub fn unblocks(map: &OsdMap, pg: PgId, view: &View, starts: &[OsdId], losses: &
         losses,
     };
     !is_group_down(&code, &after, view.les, view.intervals.as_slice())
+}
+
+/// The statuses of devices after these devices and those booted, and some were declared lost.
+#[derive(Drop)]
+pub(crate) struct ChangedStatuses<'a, S> {
+    pub(crate) statuses: &'a S,
+    pub(crate) these: &'a [OsdId],
+    pub(crate) those: &'a [OsdId],
+    pub(crate) losses: &'a [OsdId],
+}
+
+impl<S: StatusOf> StatusOf for ChangedStatuses<'_, S> {
+    ghost use Rattle.std.specs.Prelude.{◌++◌};
+    ghost use Rattle.pgp_reasons.specs.Ways.{status_after};
+
+    ghost status_of = { λ c. status_after (c.these.now ++ c.those.now) c.losses.now (S.status_of c.statuses.now) };
+
+    fn status(&self, osd: OsdId, first: Epoch) -> Status {
+        let before = self.statuses.status(osd, first);
+        if self.these.contains(&osd) || self.those.contains(&osd) {
+            Status::Up
+        } else if self.losses.contains(&osd) {
+            match before {
+                Status::Down => Status::Lost,
+                other => other,
+            }
+        } else {
+            before
+        }
+    }
 }
 
 /// Judges whether a group would no longer be down once some devices booted.

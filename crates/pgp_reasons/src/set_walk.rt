@@ -1,14 +1,13 @@
 ghost use Rattle.std.specs.Prelude.{◌≡◌, ◌<◌, ◌≤◌, ◌+◌, ◌++◌, [], ◌∷◌, false, length, filter, IfOk, IfSome, IfNone, OnOk};
-ghost use Rattle.std.specs.List.{list_any};
 ghost use Rattle.pgp_reasons.specs.Looks.{looks_of, most_looks, HasStopped};
-ghost use Rattle.pgp_reasons.specs.Smallest.{each_but_one, is_smallest, most_sets, smallest_with, AreFirstOf};
+ghost use Rattle.pgp_reasons.specs.Smallest.{is_smallest, most_sets, smallest_with, AreFirstOf};
 
 use super::enough::Enough;
 use pgp_ids::{OsdId, Seq};
 use std::alloc::{AllocError, Global};
 
 /// How many sets a walk judges before it stops.
-const LOOKS: usize = 10_000;
+pub(crate) const LOOKS: usize = 10_000;
 
 /// How many sets a walk lists before it stops.
 pub(crate) const MOST_SETS: usize = 16;
@@ -47,21 +46,6 @@ impl SetWalk {
         Some(judge.is_enough(these, those))
     }
 
-    /// Whether the set is still enough without one of its devices. None if no more sets may be judged.
-    fn is_enough_but_one<E: Enough>(&mut self, judge: &E, set: &[OsdId]) -> Option<bool>
-        ensures said { IfSome result (λ said. said ≡ list_any (E.enough judge.now) (each_but_one set.now)) }
-        ensures kept { self.new.sets ≡ self.old.sets }
-        ensures counted { self.old.looks ≤ self.new.looks + length set.now }
-        ensures stopped { IfNone result (self.new.looks ≡ 0) }
-    {
-        for place in 0..set.len() {
-            if self.look(judge, &set[..place], &set[place + 1..])? {
-                return Some(true);
-            }
-        }
-        Some(false)
-    }
-
     /// Whether the set is enough, and no longer enough without any one of its devices. None if no more sets may be judged.
     fn is_smallest<E: Enough>(&mut self, judge: &E, set: &[OsdId]) -> Option<bool>
         ensures said { IfSome result (λ said. said ≡ is_smallest (E.enough judge.now) set.now) }
@@ -69,7 +53,15 @@ impl SetWalk {
         ensures counted { self.old.looks ≤ self.new.looks + (length set.now + 1) }
         ensures stopped { IfNone result (self.new.looks ≡ 0) }
     {
-        Some(self.look(judge, set, &[])? && !self.is_enough_but_one(judge, set)?)
+        if !self.look(judge, set, &[])? {
+            return Some(false);
+        }
+        for place in 0..set.len() {
+            if self.look(judge, &set[..place], &set[place + 1..])? {
+                return Some(false);
+            }
+        }
+        Some(true)
     }
 
     /// Lists the set, if it is one of the smallest. It answers whether the walk may go on.

@@ -1,22 +1,19 @@
 //! Whether any so many of some devices are enough.
 
 ghost use Rattle.std.specs.Prelude.{◌≡◌, ◌++◌, true, filter, IfOk, IfSome, OnOk};
-ghost use Rattle.pgp_reasons.specs.Shape.{takes_part, is_as_wanted, AreSplit, IsEach};
+ghost use Rattle.pgp_reasons.specs.Shape.{takes_part, is_as_wanted, IsEach};
 ghost use Rattle.pgp_reasons.specs.Smallest.{IsAnyOf};
 
-use super::enough::Enough;
-use super::leave_out::leave_out;
+use super::enough::{Enough, leave_out};
+use super::set_walk::LOOKS;
 use super::ways::AnyOf;
 use pgp_ids::{OsdId, Seq};
 use std::alloc::{AllocError, Global};
 
-/// How many sets are judged before it isn't said.
-const LOOKS: usize = 10_000;
-
 /// How many of which devices are enough, whichever they are, if it is so of these devices, which are enough.
 ///
 /// One of the smallest sets tells how many, and which devices may stand in for one of it. Then all sets of so many of those have to
-/// be enough, and none of one fewer may be, not even with all other devices.
+/// be enough, and none of one fewer may be, not even with all other devices. It isn't said if too many sets had to be judged.
 pub(crate) fn any_of<E: Enough>(
     alloc: Global,
     judge: &E,
@@ -29,11 +26,23 @@ pub(crate) fn any_of<E: Enough>(
     let one = one.as_slice();
     let some = those_that(alloc, judge, among, one, true)?;
     let others = those_that(alloc, judge, among, one, false)?;
-    if !is_any_of(alloc, judge, one.len(), some.as_slice(), others.as_slice())? {
+    let least = one.len();
+    if least == 0 || some.len() <= least {
+        return Ok(None);
+    }
+    let mut walk = ShapeWalk {
+        judge,
+        looks: LOOKS,
+        chosen: Vec::new(alloc),
+    };
+    if !walk.is_each(some.as_slice(), least, &[], true)? {
+        return Ok(None);
+    }
+    if !walk.is_each(some.as_slice(), least - 1, others.as_slice(), false)? {
         return Ok(None);
     }
     Ok(Some(AnyOf {
-        least: one.len(),
+        least,
         osds: Seq::from_vec(some),
     }))
 }
@@ -61,31 +70,6 @@ fn takes_part<E: Enough>(judge: &E, set: &[OsdId], osd: OsdId) -> bool
     ensures { result ≡ takes_part (E.enough judge.now) set.now osd }
 {
     set.contains(&osd) || judge.is_enough(set.get(1..).unwrap_or(&[]), &[osd])
-}
-
-/// Whether any so many of the first devices are enough, and no fewer with all of the others, where more than one way to choose
-/// them is left. It says that it isn't so if it had to judge too many sets.
-fn is_any_of<E: Enough>(
-    alloc: Global,
-    judge: &E,
-    least: usize,
-    osds: &[OsdId],
-    others: &[OsdId],
-) -> Result<bool, AllocError>
-    ensures { IfOk result (λ is. is ≡ true → AreSplit (E.enough judge.now) least osds.now others.now) }
-{
-    if least == 0 || osds.len() <= least {
-        return Ok(false);
-    }
-    let mut walk = ShapeWalk {
-        judge,
-        looks: LOOKS,
-        chosen: Vec::new(alloc),
-    };
-    if !walk.is_each(osds, least, &[], true)? {
-        return Ok(false);
-    }
-    walk.is_each(osds, least - 1, others, false)
 }
 
 /// A walk over the sets of so many devices, all of which have to be judged alike.

@@ -2,12 +2,12 @@
 
 ghost use Rattle.std.specs.Prelude.{◌≡◌, IfOk};
 ghost use Rattle.pgp_sets.specs.Status.{held_status};
-ghost use Rattle.pgp_reasons.specs.Short.{fallen as fallen_of, short_of as short_by};
+ghost use Rattle.pgp_reasons.specs.Short.{short_of};
 
 use super::fates::add_with;
 use super::lacking::lacking;
 use pgp_code::{AnyCode, Recoverable};
-use pgp_ids::{Epoch, OsdId, Past, Seq, View};
+use pgp_ids::{OsdId, Seq, View};
 use pgp_interval::acting_slots;
 use pgp_map::OsdMap;
 use pgp_sets::Status;
@@ -19,7 +19,7 @@ pub struct Short {
     /// How many more slots than those of the acting members it needs.
     pub lacks: usize,
     /// The devices that are down now, and were acting in a past interval since the group last began to serve. In ascending
-    /// order, each once.
+    /// order, each once. Whether one of them comes back into acting is for placement to say, so none is called enough.
     pub fallen: Seq<OsdId>,
 }
 
@@ -31,33 +31,18 @@ pub(crate) fn short_of(
     view: &View,
 ) -> Result<Short, AllocError>
     ensures { IfOk result (λ short. short
-        ≡ short_by code.now (held_status map.now) view.now.les view.now.intervals view.now.acting) }
+        ≡ short_of code.now (held_status map.now) view.now.les view.now.intervals view.now.acting) }
 {
     let by_place = code.by_place();
     let past = view.intervals.as_slice();
-    let fallen = fallen(alloc, by_place, map, view.les, past)?;
-    Ok(Short {
-        lacks: lacking(code, acting_slots(by_place, &view.acting)),
-        fallen,
-    })
-}
-
-/// The devices that are down now, and were acting in a past interval that didn't end before the epoch `les`. Whether one of them
-/// comes back into acting is for placement to say, so none is called enough.
-fn fallen(
-    alloc: Global,
-    by_place: bool,
-    map: &OsdMap,
-    les: Epoch,
-    past: &[Past],
-) -> Result<Seq<OsdId>, AllocError>
-    ensures { IfOk result (λ list. list ≡ fallen_of by_place (held_status map.now) les past.now) }
-{
-    let mut list = Vec::new(alloc);
+    let mut fallen = Vec::new(alloc);
     for interval in past {
-        if les <= interval.last {
-            add_with(&mut list, Status::Down, by_place, map, interval)?;
+        if view.les <= interval.last {
+            add_with(&mut fallen, Status::Down, by_place, map, interval)?;
         }
     }
-    Ok(Seq::from_vec(list))
+    Ok(Short {
+        lacks: lacking(code, acting_slots(by_place, &view.acting)),
+        fallen: Seq::from_vec(fallen),
+    })
 }

@@ -4,8 +4,7 @@ ghost use Rattle.std.specs.Prelude.{◌≡◌, ◌≤◌, ◌<◌, List, ℕ, no
 ghost use Rattle.std.specs.List.{list_any};
 ghost use Rattle.pgp_reasons.specs.Smallest.{holds, most_sets, smallest, AllHave, IsSpread};
 
-use super::enough::Enough;
-use super::leave_out::leave_out;
+use super::enough::{Enough, leave_out};
 use super::set_walk::MOST_SETS;
 use pgp_ids::{OsdId, Seq};
 use std::alloc::{AllocError, Global};

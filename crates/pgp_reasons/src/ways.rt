@@ -5,9 +5,13 @@ ghost use Rattle.pgp_map.specs.MapOf.{IsMapOf};
 ghost use Rattle.pgp_group.specs.GroupLog.{GroupLog, incs};
 ghost use Rattle.pgp_group.specs.View.{view_of};
 ghost use Rattle.pgp_reasons.specs.Reasons.{AreWaysOf, no_ways};
+ghost use Rattle.pgp_reasons.specs.Smallest.{AreWays};
 
+use super::enough::Enough;
 use super::relief::Relief;
-use super::search::smallest_of;
+use super::set_walk::SetWalk;
+use super::shape::any_of;
+use super::spread::spread;
 use pgp_code::AnyCode;
 use pgp_ids::{OsdId, Seq, View};
 use pgp_map::OsdMap;
@@ -62,6 +66,40 @@ pub(crate) fn ways_of(
         past: view.intervals.as_slice(),
     };
     smallest_of(alloc, &relief, view.blocked_by.as_slice())
+}
+
+/// The smallest sets of these devices that are enough, the smaller first.
+///
+/// Where any so many of some devices are enough it says so, unless it would have to judge more than 10,000 sets for that. Else it
+/// walks the sets by their size, and stops after it has judged 10,000 of them or listed 16. Where it stopped it lists some that have
+/// little in common. For nine devices it never has to judge 10,000 sets.
+fn smallest_of<E: Enough>(
+    alloc: Global,
+    judge: &E,
+    among: &[OsdId],
+) -> Result<Ways, AllocError>
+    ensures { IfOk result (λ ways. AreWays (E.enough judge.now) among.now ways) }
+{
+    if !judge.is_enough(among, &[]) {
+        return Ok(no_ways(alloc));
+    }
+    if let Some(any) = any_of(alloc, judge, among)? {
+        return Ok(Ways::Any(any));
+    }
+    let mut found = SetWalk::new(alloc);
+    let mut chosen = Vec::new(alloc);
+    for size in 0..among.len() + 1 {
+        if !found.walk(alloc, judge, &mut chosen, among, size)? {
+            return Ok(Ways::Listed(Sets {
+                sets: spread(alloc, judge, among)?,
+                more: true,
+            }));
+        }
+    }
+    Ok(Ways::Listed(Sets {
+        sets: found.sets,
+        more: false,
+    }))
 }
 
 /// No sets of devices.

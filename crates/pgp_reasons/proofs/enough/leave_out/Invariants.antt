@@ -1,6 +1,6 @@
 use Rattle.std.proofs.Common.{◌≡◌, [], drop}
 use Rattle.pgp_reasons.proofs.SetLemmas.{lean}
-use Rattle.pgp_reasons.proofs.leave_out.leave_out.Given as goal
+use Rattle.pgp_reasons.proofs.enough.leave_out.Given as goal
 
 abbrev pub invariant-loop-place : goal.invariant-loop-place
 invariant-loop-place g l =

@@ -2,7 +2,7 @@ use Rattle.std.proofs.Common.{◌≡◌, ◌+◌, ◌≤◌, [], length}
 use Rattle.pgp_reasons.specs.Looks.{looks_below, most_looks}
 use Rattle.pgp_reasons.specs.Smallest.{most_sets}
 use Rattle.pgp_reasons.proofs.WalkLemmas.{smallest_below}
-use Rattle.pgp_reasons.proofs.search.listed.Given as goal
+use Rattle.pgp_reasons.proofs.ways.smallest_of.Given as goal
 
 abbrev pub invariant-loop-size : goal.invariant-loop-size
 invariant-loop-size g l = record {

@@ -1,8 +1,24 @@
-use Rattle.std.proofs.Common.{◌≡◌, ◌+◌, ◌++◌, length, ap, ◌∙◌, arith}
-use Rattle.pgp_reasons.specs.Smallest.{smallest_with}
+use Rattle.std.proofs.Common.{◌≡◌, ◌+◌, [], ◌++◌, true, false, length, ap, sym, ◌∙◌, subst, arith, append-nil}
+use Rattle.pgp_reasons.specs.Smallest.{smallest_with, AreWays}
 use Rattle.pgp_reasons.proofs.LookLemmas.{next-size}
-use Rattle.pgp_reasons.proofs.WalkLemmas.{size-begins, none-again, many-at, smallest_below, listed-all, listed-more, listed-some}
-use Rattle.pgp_reasons.proofs.search.listed.Goals as goal
+use Rattle.pgp_reasons.proofs.SetLemmas.{none-enough}
+use Rattle.pgp_reasons.proofs.WalkLemmas.{said-is, size-begins, none-again, many-at, smallest_below, listed-all, listed-more, listed-some}
+use Rattle.pgp_reasons.proofs.ways.smallest_of.Goals as goal
+
+pub returns-then-not-is_enough : goal.returns-then-not-is_enough
+returns-then-not-is_enough g c =
+    let enough = g.E.Enough.enough c.args.judge.now in
+    let short : enough c.args.among.now ≡ false = said-is enough (c.args.among.now ++ []) c.args.among.now c.is_enough.result false (append-nil c.args.among.now) c.is_enough.ensures c.if-not-is_enough.true in
+    subst (AreWays enough c.args.among.now) (sym c.no_ways.ensures)
+    (listed-all enough c.args.among.now [] (sym (none-enough enough (g.met.E.Enough.monotone c.args.judge.now) c.args.among.now short)) (omega arith))
+
+pub any_of-requires : goal.any_of-requires
+any_of-requires g c =
+    said-is (g.E.Enough.enough c.args.judge.now) (c.args.among.now ++ []) c.args.among.now c.is_enough.result true (append-nil c.args.among.now) c.is_enough.ensures c.if-not-is_enough.false
+
+pub spread-requires : goal.spread-requires
+spread-requires g c =
+    said-is (g.E.Enough.enough c.args.judge.now) (c.args.among.now ++ []) c.args.among.now c.is_enough.result true (append-nil c.args.among.now) c.is_enough.ensures c.if-not-is_enough.false
 
 pub returns-then-not-branch : goal.returns-then-not-branch
 returns-then-not-branch g c =

@@ -1,5 +1,5 @@
 use Rattle.pgp_reasons.proofs.SetLemmas.{left_out}
-use Rattle.pgp_reasons.proofs.leave_out.leave_out.Goals as goal
+use Rattle.pgp_reasons.proofs.enough.leave_out.Goals as goal
 
 pub returns : goal.returns
 returns g c =
