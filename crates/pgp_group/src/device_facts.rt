@@ -106,12 +106,7 @@ pub(crate) fn renew_all(noted: &mut [DeviceFacts], index: &mut PriorIndex<AnyCod
 
 /// Lets the index take the statuses of a device of which the map said the first and says the second, by the call for how they
 /// changed. Those of a device that was made again rose to up, and fell from there.
-fn renew(
-    index: &mut PriorIndex<AnyCode>,
-    before: &DeviceFacts,
-    after: &DeviceFacts,
-    map: &OsdMap,
-)
+fn renew(index: &mut PriorIndex<AnyCode>, before: &DeviceFacts, after: &DeviceFacts, map: &OsdMap)
     ensures { (b : Basis Code) (status : ℕ → ℕ → Status) → IsIndexOf enough_of is_by_place b index.old
         → IsChange (allows_turn before.now after.now) (is_by_place b.code) after.now.osd (held_status map.now) b.status status b.past
         → IsIndexOf enough_of is_by_place (record b { status = status }) index.new }

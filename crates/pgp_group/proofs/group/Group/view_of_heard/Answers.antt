@@ -9,8 +9,8 @@ returns c = λ g keeps here current heard logs reckoned count.
     let prior_is : prior g ≡ c.in_ok-prior.prior = sym (c.in_ok-prior.ensures (basis_of g) reckoned) in
     let copy : IsBestCopy g c.in_ok-copy.copy = c.in_ok-copy.ensures g keeps current heard logs in
     let waiting : is_waiting g ≡ c.is_waiting-waiting.result = sym (c.is_waiting-waiting.ensures
-        ∙ ap (list_any (λ (member : Member). not (has_member member infos))) c.as_slice.ensures
-        ∙ waiting-is g c.in_ok-prior.prior infos (sym prior_is) heard.infos) in
+    ∙ ap (list_any (λ (member : Member). not (has_member member infos))) c.as_slice.ensures
+    ∙ waiting-is g c.in_ok-prior.prior infos (sym prior_is) heard.infos) in
     let decided : c.verdict-verdict.result ≡ verdict g =
     c.verdict-verdict.ensures g keeps here current copy (ap (λ (found : Prior). found.down) prior_is) waiting in
     λ i. record {
