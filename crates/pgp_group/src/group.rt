@@ -35,8 +35,9 @@ ghost use Rattle.pgp_group.specs.View.{view_of, scratch};
 mod best_copy;
 mod next;
 
+pub use next::primary_facts;
+
 use self::best_copy::BestCopy;
-use super::counted::primary_facts;
 use super::heard::is_waiting;
 use super::infos::Infos;
 use super::kept_prior::KeptPrior;

@@ -5,15 +5,22 @@ ghost use Rattle.std.specs.List.{list_any};
 ghost use Rattle.pgp_info.specs.Best.{HasDistinctMembers};
 ghost use Rattle.pgp_info.specs.Heard.{with_infos};
 ghost use Rattle.pgp_group.specs.GroupLog.{GroupLog};
-ghost use Rattle.pgp_group.specs.Heard.{has_member, last_of_each_member};
+ghost use Rattle.pgp_group.specs.Heard.{has_member, is_counted, last_of_each_member};
 ghost use Rattle.pgp_group.specs.KeptInfos.{counts};
 ghost use Rattle.pgp_group.specs.Present.{IsPresent};
 
-use super::counted::is_counted;
 use pgp_ids::{Epoch, Info, Member};
 use pgp_info::{Best, Preference};
 use pgp_map::OsdMap;
 use std::alloc::{AllocError, Global};
+
+/// Whether a report of this member and stamp counts: it is of the interval that began at the epoch `first`, and its device
+/// has been up since.
+pub fn is_counted(map: &OsdMap, first: Epoch, member: Member, stamp: Epoch) -> bool
+    ensures { (g : GroupLog) → IsPresent g map.now first → result ≡ is_counted g member stamp }
+{
+    first <= stamp && map.is_up(member.osd) && map.up_from(member.osd) <= stamp
+}
 
 /// Of each member that has one of these infos which counts, the last one, by the last map and the first epoch of the current
 /// interval; and the best of them by this preference.

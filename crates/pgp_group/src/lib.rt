@@ -10,7 +10,6 @@
 //! alone.
 #![tactic(auto)]
 
-mod counted;
 mod device_facts;
 mod group;
 mod heard;
@@ -22,6 +21,5 @@ mod logs;
 mod named_devices;
 mod reports;
 
-pub use counted::{is_counted, primary_facts};
-pub use group::Group;
-pub use heard::last_infos;
+pub use group::{Group, primary_facts};
+pub use heard::{is_counted, last_infos};

@@ -14,7 +14,7 @@ ghost use Rattle.pgp_group.specs.KeptReports.{is_of, member_log, member_entries,
 ghost use Rattle.pgp_group.specs.Present.{IsPresent};
 ghost use Rattle.pgp_group.specs.declared.logs.CountedLog.{CountedLog as LogOfMember};
 
-use super::counted::is_counted;
+use super::heard::is_counted;
 use pgp_ids::{Epoch, Info, Member, Report};
 use pgp_map::OsdMap;
 use pgp_missing::MemberLog;

@@ -9,11 +9,11 @@ ghost use Rattle.pgp_interval.specs.SameMembers.{is_same};
 ghost use Rattle.pgp_map.specs.Held.{HasGroup};
 ghost use Rattle.pgp_map.specs.Map.{epoch as epoch_of};
 ghost use Rattle.pgp_map.specs.MapFault.{map_fault, then_with};
-ghost use Rattle.pgp_map.specs.MapOf.{IsMapOf};
+ghost use Rattle.pgp_map.specs.MapOf.{IsMapOf, Says};
 ghost use Rattle.pgp_map.specs.Pools.{has_group};
 ghost use Rattle.pgp_sets.specs.Sets.{membership};
 ghost use Rattle.pgp_group.specs.Entries.{incs_of};
-ghost use Rattle.pgp_group.specs.GroupHistory.{EpochsAscend, group_facts, group_primary, made_at};
+ghost use Rattle.pgp_group.specs.GroupHistory.{EpochsAscend, group_facts, group_primary, made_at, primary_facts};
 ghost use Rattle.pgp_group.specs.GroupOf.{IsGroupOf, IsSilent};
 ghost use Rattle.pgp_group.specs.Reaching.{reaching};
 
@@ -104,4 +104,20 @@ fn is_same(a: &Membership, b: &Membership) -> bool
     ensures { result ≡ is_same a.now b.now }
 {
     a == b
+}
+
+/// What the map says of an acting primary; where there is none, both epochs are 0.
+pub fn primary_facts(map: &OsdMap, primary: Option<OsdId>) -> PrimaryFacts
+    ensures { Says map.now (λ incs. result ≡ primary_facts incs primary) }
+{
+    match primary {
+        Some(osd) => PrimaryFacts {
+            up_from: map.up_from(osd),
+            up_thru: map.up_thru(osd),
+        },
+        None => PrimaryFacts {
+            up_from: Epoch::new(0),
+            up_thru: Epoch::new(0),
+        },
+    }
 }
