@@ -1,6 +1,6 @@
 -- What it costs to end the wait of a group in some way: what is given up, by the members that still have what they held (this
 -- project's own words). `before` and `after` say what has become of a device of an interval, before and after the way.
-use Rattle.std.specs.Prelude.{ℕ, List, Bool, true, false, not, ◌&&◌, ◌||◌, nat_lt, map, filter, flat_map}
+use Rattle.std.specs.Prelude.{ℕ, List, Bool, true, not, ◌&&◌, ◌||◌, nat_lt, map, filter, flat_map}
 use Rattle.pgp_code.specs.AnyCode.{enough_of, is_by_place}
 use Rattle.pgp_code.specs.declared.any.AnyCode.{AnyCode}
 use Rattle.pgp_ids.specs.declared.past.Past.{Past}

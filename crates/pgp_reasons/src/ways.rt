@@ -73,11 +73,7 @@ pub(crate) fn ways_of(
 /// Where any so many of some devices are enough it says so, unless it would have to judge more than 10,000 sets for that. Else it
 /// walks the sets by their size, and stops after it has judged 10,000 of them or listed 16. Where it stopped it lists some that have
 /// little in common. For nine devices it never has to judge 10,000 sets.
-fn smallest_of<E: Enough>(
-    alloc: Global,
-    judge: &E,
-    among: &[OsdId],
-) -> Result<Ways, AllocError>
+fn smallest_of<E: Enough>(alloc: Global, judge: &E, among: &[OsdId]) -> Result<Ways, AllocError>
     ensures { IfOk result (λ ways. AreWays (E.enough judge.now) among.now ways) }
 {
     if !judge.is_enough(among, &[]) {

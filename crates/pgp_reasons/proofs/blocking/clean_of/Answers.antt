@@ -1,4 +1,4 @@
-use Rattle.std.proofs.Common.{◌≡◌, Option, Some, None, map, option_map, ap, sym, ◌∙◌, cond}
+use Rattle.std.proofs.Common.{Option, Some, map, option_map, ap, sym, ◌∙◌, cond}
 use Rattle.std.specs.Option.{option_copied}
 use Rattle.std.proofs.lemmas.List.{take_all}
 use Rattle.pgp_ids.specs.declared.past.Past.{Past}
