@@ -71,8 +71,6 @@ impl Infos {
             self.inbox.mark_seen();
             return Ok(());
         }
-        // It takes no memory to hear nobody.
-        let nobody = last_infos(alloc, map, first, &[], prefer)?;
         forget_uncounted(&mut self.heard, map, first);
         match hear(&mut self.heard, map, first, self.inbox.unseen()) {
             Ok(()) => {
@@ -80,7 +78,7 @@ impl Infos {
                 Ok(())
             }
             Err(fault) => {
-                self.heard = nobody;
+                self.heard = Best::new(alloc, prefer);
                 self.inbox.mark_unseen();
                 Err(fault)
             }

@@ -5,9 +5,16 @@ use Rattle.std.proofs.lemmas.Bool.{cases_Bool, eq-eqb, true≢false}
 use Rattle.std.proofs.lemmas.Bool.Decides.{nat_tests}
 use Rattle.std.proofs.lemmas.List.Sums.{count_by-le-length, sum_by-cons}
 use Rattle.pgp_lists.proofs.Members.{Contains-cases, Contains-first, Contains-here, Contains-nil, append-contains, contains-any, contains-append, contains-filter}
-use Rattle.pgp_reasons.specs.Shape.{AreSplit, IsEach, is_as_wanted}
+use Rattle.pgp_reasons.specs.Shape.{IsEach, is_as_wanted}
 use Rattle.pgp_reasons.specs.Smallest.{holds, sets_of, IsPartOf}
 use Rattle.pgp_reasons.proofs.SetLemmas.{held-one, IsMonotone, fewer-short, set-cases, too_few, with-first, without-first}
+
+-- any so many of the first devices are enough, no fewer of them are with all others, and they are more than that
+pub record AreSplit (enough : List ℕ → Bool) (least : ℕ) (osds others : List ℕ) : Type 0 where
+  pub some : 0 < least
+  pub fewer : least < length osds
+  pub enough_of : IsEach enough true [] least osds []
+  pub too_few : IsEach enough false [] (least - 1) osds others
 
 -- ---- how many of a list a set has
 

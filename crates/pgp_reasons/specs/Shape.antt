@@ -1,5 +1,5 @@
 -- Whether any so many of some devices are enough, as the code finds it.
-use Rattle.std.specs.Prelude.{◌≡◌, ℕ, ◌-◌, ◌<◌, List, [], ◌∷◌, ◌++◌, Bool, true, false, not, ◌||◌, drop, length, Contains}
+use Rattle.std.specs.Prelude.{◌≡◌, ℕ, List, [], ◌∷◌, ◌++◌, Bool, true, false, not, ◌||◌, drop, Contains}
 use Rattle.pgp_reasons.specs.Smallest.{holds, sets_of}
 
 -- the device is one of the set, or is enough with those of the set that follow its first
@@ -15,10 +15,3 @@ IsEach enough wanted chosen left rest others =
 abbrev pub is_as_wanted : (wanted said : Bool) → Bool
 is_as_wanted true said = said
 is_as_wanted false said = not said
-
--- any so many of the first devices are enough, no fewer of them are with all others, and they are more than that
-pub record AreSplit (enough : List ℕ → Bool) (least : ℕ) (osds others : List ℕ) : Type 0 where
-  pub some : 0 < least
-  pub fewer : least < length osds
-  pub enough_of : IsEach enough true [] least osds []
-  pub too_few : IsEach enough false [] (least - 1) osds others

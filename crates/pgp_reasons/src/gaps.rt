@@ -14,7 +14,7 @@ ghost use Rattle.pgp_reasons.specs.Gaps.{runs_of, numbers_above, runs_lacked};
 ghost use Rattle.pgp_reasons.specs.Reasons.{gaps};
 
 use super::gap::Gap;
-use super::heard::entries_in;
+use super::reported::entries_in;
 use pgp_ids::{Entry, Epoch, Info, LogEntry, Member, PgId, Seq};
 use pgp_lists::insert_in_order;
 use pgp_map::OsdMap;

@@ -10,7 +10,7 @@ use super::copies::{Copies, copies_of};
 use super::fates::IntervalNow;
 use super::gap::Gap;
 use super::gaps::gaps;
-use super::heard::infos_in;
+use super::reported::infos_in;
 use super::short::{Short, short_of};
 use super::ways::{Ways, no_ways, ways_of};
 use pgp_code::AnyCode;

@@ -6,8 +6,8 @@ use Rattle.pgp_ids.specs.declared.report.Info.{Info}
 use Rattle.pgp_reasons.specs.Reported.{info_in}
 use Rattle.pgp_reasons.proofs.ListLemmas.{found-next, missed-next}
 use Rattle.pgp_reasons.proofs.ReportedLemmas.{reported-infos}
-use Rattle.pgp_reasons.proofs.heard.infos_in.Goals as goal
-use Rattle.pgp_reasons.proofs.heard.infos_in.Goals.{in-Some+in_ok-push, in_default}
+use Rattle.pgp_reasons.proofs.reported.infos_in.Goals as goal
+use Rattle.pgp_reasons.proofs.reported.infos_in.Goals.{in-Some+in_ok-push, in_default}
 
 pub loop-entry-preserved : goal.loop-entry-preserved
 loop-entry-preserved c =
