@@ -35,14 +35,13 @@ ghost use Rattle.pgp_group.specs.View.{view_of, scratch};
 mod best_copy;
 mod next;
 
-pub use next::primary_facts;
-
 use self::best_copy::BestCopy;
 use super::heard::is_waiting;
 use super::infos::Infos;
 use super::kept_prior::KeptPrior;
 use super::named_devices::NamedDevices;
 use super::reports::Reports;
+pub use next::primary_facts;
 use pgp_code::{AnyCode, Recoverable};
 use pgp_ids::{Entry, Epoch, Info, Membership, OsdId, PgId, Report, Seq, Verdict, View};
 use pgp_info::Preference;
