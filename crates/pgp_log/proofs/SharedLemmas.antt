@@ -1,5 +1,5 @@
 -- Logs whose entries have other owners too: each element of a list stands for an entry.
-use Rattle.pgp_log.proofs.Common.{◌≡◌, ℕ, ◌+◌, ◌<◌, List, [], ◌∷◌, ◌++◌, None, Result, Ok, Err, IfOk, OnOk, true, length, map, take, drop, get_or, ap, sym, ◌∙◌, arith, append_assoc, map-append, map_more, take-append-drop, take_all, Entry, fits, is_close, is_closed, is_legal}
+use Rattle.pgp_log.proofs.Common.{◌≡◌, ℕ, ◌+◌, ◌<◌, List, [], ◌∷◌, ◌++◌, None, Result, Ok, Err, OnOk, true, length, map, take, drop, get_or, ap, sym, ◌∙◌, arith, append_assoc, map-append, map_more, take-append-drop, take_all, Entry, fits, is_close, is_closed, is_legal}
 pub use Rattle.pgp_lists.proofs.Results.{on_err}
 use Rattle.pgp_log.proofs.LogLemmas.{front-legal, legal-last}
 use Rattle.pgp_log.proofs.TakeLemmas.{closed-push, fits-open_log}
@@ -39,11 +39,6 @@ closed-by-last f xs i x legal last item =
     let parts : map f xs ≡ map f (take i xs) ++ f x ∷ [] = ap (map f) (sym (take_all (i + 1) xs (omega (arith, last)))) ∙ map-next f xs i x within item in
     let fit : fits (map f (take i xs)) (f x) ≡ None = legal-last (map f (take i xs)) (f x) (ap is_legal (sym parts) ∙ legal) in
     ap is_closed parts ∙ closed-push (map f (take i xs)) (f x) (fits-open_log (map f (take i xs)) (f x) fit)
-
--- what follows from two facts of what is answered
-pub ok-both : {X E : Type 0} (r : Result X E) (P Q R : X → Type 0) → ((x : X) → P x → Q x → R x) → IfOk r P → IfOk r Q → IfOk r R
-ok-both (Ok x) P Q R goes one two = goes x one two
-ok-both (Err e) P Q R goes one two = tt
 
 -- what follows from two facts that hold where a call succeeds holds there
 pub ok-two : {T E : Type 0} (r : Result T E) (P Q R : Type 0) → (P → Q → R) → OnOk r P → OnOk r Q → OnOk r R

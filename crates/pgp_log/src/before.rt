@@ -34,7 +34,7 @@ pub(crate) struct DeviceFacts {
     facts: PrimaryFacts,
 }
 
-/// How many weights of an incremental a group asks about, before it is placed anew for them.
+/// How many weights of an incremental a group asks about, before it is placed anew for them: a placement is cheaper.
 const MOST_TESTED: usize = 16;
 
 impl MapBefore {
@@ -63,16 +63,9 @@ impl MapBefore {
     {
         inc.crush.is_some()
             || has_sizes(inc.sizes.as_slice(), pg.pool)
-            || !inc.weight.is_empty() && self.may_switch(after, pg, raw)
-    }
-
-    /// Whether a weight of the map after may bring a device in for the group or take one out of these places. Of more than
-    /// [`MOST_TESTED`] weights it isn't looked at: a placement is cheaper.
-    fn may_switch(&self, after: &OsdMap, pg: &PgId, raw: &[Place]) -> bool
-        requires { HasGroup after.now pg.now }
-        ensures { result ≡ false → Says after.now (λ incs. switches_any incs pg.now raw.now self.now.weights.items ≡ false) }
-    {
-        self.weights.len() > MOST_TESTED || switches_any(after, pg, raw, self.weights.as_slice())
+            || !inc.weight.is_empty()
+                && (self.weights.len() > MOST_TESTED
+                    || switches_any(after, pg, raw, self.weights.as_slice()))
     }
 
     /// Whether one of the devices that the incremental weighs gets heavier. `after` is the map with the incremental.

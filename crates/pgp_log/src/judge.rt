@@ -77,32 +77,22 @@ impl Judge {
         if self.closed {
             return Err(Refusal::Closed);
         }
-        if let Some(refusal) = self.fault_of(entry) {
+        let fault = match entry {
+            Entry::Inc(inc) => {
+                self.map.check(inc)?;
+                None
+            }
+            Entry::Info(info) => info_fault(&self.map, info),
+            Entry::Entries(report) => entries_fault(&self.map, report),
+            Entry::Close => None,
+        };
+        if let Some(refusal) = fault {
             return Err(refusal);
         }
         if !is_close(entry) && self.count >= LONGEST_LOG {
             return Err(Refusal::LogFull);
         }
         Ok(())
-    }
-
-    /// What is wrong with the entry itself, by the map that the log makes. `Memory` comes only where there was none to look at
-    /// an incremental.
-    fn fault_of(&self, entry: &Entry) -> Option<Refusal>
-        ensures none { IfNone result (OfItsLog self.now (λ log. entry_fault log entry.now ≡ None)) }
-        ensures some { IfSome result (λ refusal. refusal ≢ Memory → OfItsLog self.now (λ log. entry_fault log entry.now ≡ Some refusal)) }
-        ensures wants { result ≡ Some Memory → is_some (inc_of entry.now) ≡ true }
-        ensures lacks { result ≡ Some Memory → OfItsLog self.now (λ log. MapMayLack log entry.now) }
-    {
-        match entry {
-            Entry::Inc(inc) => match self.map.check(inc) {
-                Ok(()) => None,
-                Err(fault) => Some(Refusal::from(fault)),
-            },
-            Entry::Info(info) => info_fault(&self.map, info),
-            Entry::Entries(report) => entries_fault(&self.map, report),
-            Entry::Close => None,
-        }
     }
 
     /// The epoch of the map that the log makes with the entry.
@@ -122,23 +112,11 @@ impl Judge {
         ensures err { OnErr result (OfItsLog self.old (λ log. IsJudgeOf log self.new)) }
         ensures wants { OnErr result (is_some (inc_of entry.now) ≡ true) }
     {
-        extend_map(&mut self.map, entry)?;
+        if let Some(inc) = inc_of(entry) {
+            self.map.apply(inc)?;
+        }
         self.count += 1;
         self.closed = is_close(entry);
         Ok(())
-    }
-}
-
-/// Makes this the map after an entry in which the map finds no fault.
-fn extend_map(map: &mut OsdMap, entry: &Entry) -> Result<(), AllocError>
-    requires { IfSome (inc_of entry.now) (λ inc. given_fault inc.crush ≡ None) }
-    ensures ok { OnOk result ((log : List AnyEntry) → IsMapOf (incs_of log) map.old → entry_fault log entry.now ≡ None
-        → IsMapOf (incs_of (log ++ entry.now ∷ [])) map.new) }
-    ensures err { OnErr result (Says map.old (λ incs. IsMapOf incs map.new)) }
-    ensures wants { OnErr result (is_some (inc_of entry.now) ≡ true) }
-{
-    match inc_of(entry) {
-        Some(inc) => map.apply(inc),
-        None => Ok(()),
     }
 }

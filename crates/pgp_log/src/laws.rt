@@ -156,13 +156,6 @@ pub fn log_entries_without_a_version()
     ensures good { fits (maps (copies_on_three ∷ [])) (entries_of_first (modify 1 (codes "a") ∷ [])) ≡ None }
 {}
 
-/// Nothing follows a Close.
-pub fn closed_log()
-    ensures closed { fits (entry.Close ∷ []) (entry.Inc (empty_step 1)) ≡ Some refusal.Closed }
-    ensures twice { fits (entry.Close ∷ []) entry.Close ≡ Some refusal.Closed }
-    ensures open { fits [] entry.Close ≡ None }
-{}
-
 /// The logs by which a group comes to serve, and serves again, are legal, and so is that by which one is down.
 pub fn legal_logs()
     ensures serving { is_legal until_serving ≡ true }

@@ -20,9 +20,8 @@ pub use before::MapBefore;
 pub use entry::{inc_of, is_close};
 pub use judge::{Judge, LONGEST_LOG};
 pub use judged_log::JudgedLog;
-pub use place::{ObjectPlace, group_of};
+pub use place::ObjectPlace;
 pub use raw_sets::RawSets;
-pub use report::{entries_fault, info_fault};
 pub use touch::{
     changes_no_pool, changes_nothing, changes_placement, changes_placements, changes_pool,
     changes_temp, moves, moves_all, moves_none,

@@ -2,9 +2,9 @@
 ghost use Rattle.std.specs.Prelude.{◌≡◌, ◌≢◌, ◌||◌, Some};
 ghost use Rattle.std.specs.List.{list_any};
 ghost use Rattle.pgp_map.specs.MapOf.{Says};
-ghost use Rattle.pgp_log.specs.ReportFault.{is_slot_of, has_unknown_member, is_half, is_bad_version, are_bad_ends, is_zero, has_bad_info, has_bad_entries, report_fault, info_fault, entries_fault};
+ghost use Rattle.pgp_log.specs.ReportFault.{has_unknown_member, is_bad_version, are_bad_ends, is_zero, has_bad_info, report_fault, info_fault, entries_fault};
 
-use pgp_ids::{Epoch, Info, LogEntry, Member, PgId, PoolSpec, Refusal, Report, Version};
+use pgp_ids::{Epoch, Info, LogEntry, Member, PgId, Refusal, Report, Version};
 use pgp_map::OsdMap;
 
 /// Why the log refuses an info, if it does.
@@ -52,22 +52,13 @@ fn report_fault(
 fn has_unknown_member(map: &OsdMap, pg: &PgId, member: &Member) -> bool
     ensures { Says map.now (λ incs. result ≡ has_unknown_member incs pg.now member.now) }
 {
+    // A slot of a pool in which each member has a place is below its size, that of any other pool is 0.
     let has_slot = match map.pool(pg.pool) {
-        Some(pool) => is_slot_of(member.slot, pool),
+        Some(pool) if pool.kind.is_by_place() => member.slot < pool.size,
+        Some(_) => member.slot == 0,
         None => true,
     };
     !map.exists(member.osd) || !has_slot
-}
-
-/// A slot of a pool in which each member has a place is below its size, that of any other pool is 0.
-fn is_slot_of(slot: u8, pool: PoolSpec) -> bool
-    ensures { result ≡ is_slot_of slot pool }
-{
-    if pool.kind.is_by_place() {
-        slot < pool.size
-    } else {
-        slot == 0
-    }
 }
 
 fn has_bad_info(info: &Info) -> bool
@@ -84,27 +75,19 @@ fn has_bad_info(info: &Info) -> bool
 fn has_bad_entries(stamp: Epoch, log: &[LogEntry]) -> bool
     ensures { result ≡ list_any (λ entry. is_zero entry.version || is_bad_version stamp entry.version) log.now }
 {
-    log.iter().any(|entry| is_zero(entry.version) || is_bad_version(stamp, entry.version))
+    log.iter().any(|entry| {
+        entry.version.epoch.number() == 0 && entry.version.v == 0
+            || is_bad_version(stamp, entry.version)
+    })
 }
 
 /// One part is 0 and the other not, or the epoch is above the stamp.
 fn is_bad_version(stamp: Epoch, version: Version) -> bool
     ensures { result ≡ is_bad_version stamp version }
 {
-    is_half(version) || stamp < version.epoch
-}
-
-fn is_half(version: Version) -> bool
-    ensures { result ≡ is_half version }
-{
     (version.epoch.number() != 0 && version.v == 0)
         || (version.epoch.number() == 0 && version.v != 0)
-}
-
-fn is_zero(version: Version) -> bool
-    ensures { result ≡ is_zero version }
-{
-    version.epoch.number() == 0 && version.v == 0
+        || stamp < version.epoch
 }
 
 /// The two versions can't be the ends of one log.

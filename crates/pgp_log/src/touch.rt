@@ -2,7 +2,7 @@
 
 ghost use Rattle.std.specs.List.{list_any};
 ghost use Rattle.std.specs.Prelude.{◌≡◌, nat_eq};
-ghost use Rattle.pgp_log.specs.Touch.{turns_none, changes_no_pool, changes_placement, changes_placements, moves_none, changes_nothing};
+ghost use Rattle.pgp_log.specs.Touch.{changes_no_pool, changes_placement, changes_placements, moves_none, changes_nothing};
 ghost use Rattle.pgp_group.specs.Touched.{changes_pool, changes_temp, moves_all};
 ghost use Rattle.pgp_sets.specs.Sets.{moves};
 
@@ -61,7 +61,11 @@ pub fn changes_temp(inc: &Incremental, pg: &PgId) -> bool
 pub fn moves_none(inc: &Incremental) -> bool
     ensures { result ≡ moves_none inc.now }
 {
-    !moves_all(inc) && changes_no_pool(inc) && turns_none(inc)
+    !moves_all(inc)
+        && changes_no_pool(inc)
+        && inc.up.is_empty()
+        && inc.down.is_empty()
+        && inc.gone.is_empty()
 }
 
 /// The incremental may change where some group lies, whatever becomes of devices.
@@ -75,11 +79,7 @@ pub fn changes_placements(inc: &Incremental) -> bool
 pub fn changes_nothing(inc: &Incremental) -> bool
     ensures { result ≡ changes_nothing inc.now }
 {
-    !moves_all(inc)
-        && changes_no_pool(inc)
-        && turns_none(inc)
-        && inc.up_thru.is_empty()
-        && inc.lost.is_empty()
+    moves_none(inc) && inc.up_thru.is_empty() && inc.lost.is_empty()
 }
 
 /// The incremental makes no pool, and changes none, and no pg_temp list.
@@ -87,11 +87,4 @@ pub fn changes_no_pool(inc: &Incremental) -> bool
     ensures { result ≡ changes_no_pool inc.now }
 {
     inc.pools.is_empty() && inc.sizes.is_empty() && inc.temp.is_empty()
-}
-
-/// The incremental boots no device, takes none down and destroys none.
-pub(crate) fn turns_none(inc: &Incremental) -> bool
-    ensures { result ≡ turns_none inc.now }
-{
-    inc.up.is_empty() && inc.down.is_empty() && inc.gone.is_empty()
 }
