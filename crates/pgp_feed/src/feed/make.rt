@@ -8,9 +8,8 @@ ghost use Rattle.pgp_feed.specs.Taps.{last_of};
 ghost use Rattle.pgp_feed.specs.Supplies.{IsSupplied};
 ghost use Rattle.pgp_feed.specs.declared.fault.MakeFault.TheVariants.{Memory, NoReader};
 
-use super::steps::try_publish;
 use super::warm::warmed;
-use super::{Feed, LogWriter};
+use super::{Feed, LogWriter, try_publish};
 use crate::fault::MakeFault;
 use crate::receipt::Receipt;
 use crate::rule::Tells;
@@ -58,27 +57,34 @@ fn shown<R: Wait>(rt: &R, writer: LogWriter, told: &Receipt) -> Result<LogWriter
 }
 
 impl Feed {
-    // A feed without taps. Its writer's own view names it, so it publishes the empty log. All is tried once.
-    fn without_taps<R: Wait>(rt: &R, alloc: Global, readers: usize) -> Result<Feed, AllocError>
-        requires { (1 ≤ readers) × (readers ≤ 129) }
-        ensures { IfOk result (λ feed. entries_of (told_of feed) ≡ []) }
+    // All that takes memory: a feed without taps, and a list with room for this many. The writer's own view names the feed, so it
+    // publishes the empty log. All is tried once.
+    fn without_taps<R: Wait>(
+        rt: &R,
+        alloc: Global,
+        taps: usize,
+    ) -> Result<(Feed, Vec<Tap>), AllocError>
+        requires { (1 ≤ taps) × (taps ≤ 129) }
+        ensures { IfOk result (λ made. IsSupplied made.0 made.1 taps) }
     {
+        let list = Vec::with_capacity(alloc, taps)?;
         let (word, turns, told) = Receipt::open();
         let Some(turn) = told.turn(&turns) else {
             return Err(AllocError);
         };
-        let writer = empty_writer(alloc, &told, readers)?;
+        let writer = empty_writer(alloc, &told, taps)?;
         let (writer, warm) = warmed(rt, writer)?;
         // The first publish shows the two, the second empties the queue.
         let writer = shown(rt, shown(rt, writer, &told)?, &told)?;
-        Ok(Feed {
+        let feed = Feed {
             word,
             turns,
             turn,
             told,
             writer,
             warm,
-        })
+        };
+        Ok((feed, list))
     }
 
     // One more tap, which has seen what was told. `None`: it wasn't given a reader's place.
@@ -106,20 +112,6 @@ impl Feed {
             taps.push(tap).unwrap();
         }
         Some(taps)
-    }
-
-    // All that takes memory: a feed without taps, and a list with room for this many.
-    fn with_list<R: Wait>(
-        rt: &R,
-        alloc: Global,
-        taps: usize,
-    ) -> Result<(Feed, Vec<Tap>), AllocError>
-        requires { (1 ≤ taps) × (taps ≤ 129) }
-        ensures { IfOk result (λ made. IsSupplied made.0 made.1 taps) }
-    {
-        let list = Vec::with_capacity(alloc, taps)?;
-        let feed = Feed::without_taps(rt, alloc, taps)?;
-        Ok((feed, list))
     }
 
     // What was supplied, with its taps: refused by `Memory` where nothing was, and else by `NoReader` alone.
@@ -157,6 +149,6 @@ impl Feed {
         ensures taps { IfOk result (λ made. length made.1.items ≡ taps) }
         ensures each { IfOk result (λ made. All (λ tap. last_of tap ≡ told_of made.0) made.1.items) }
     {
-        Feed::with_taps(rt, Feed::with_list(rt, alloc, taps), taps)
+        Feed::with_taps(rt, Feed::without_taps(rt, alloc, taps), taps)
     }
 }

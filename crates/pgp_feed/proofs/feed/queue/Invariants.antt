@@ -1,5 +1,5 @@
 use Rattle.std.proofs.Common.{◌≡◌, [], drop}
-use Rattle.pgp_feed.proofs.feed.steps.queue.Given as goal
+use Rattle.pgp_feed.proofs.feed.queue.Given as goal
 
 abbrev pub invariant-loop : goal.invariant-loop
 invariant-loop g l = record {

@@ -2,7 +2,7 @@ use Rattle.std.proofs.Common.{◌≡◌, ◌+◌, ◌-◌, ◌≤◌, map, take,
 use Rattle.std.specs.Prelude.{vec_len, vec_capacity}
 use Rattle.std.specs.Arc.{arc_value}
 use Rattle.pgp_feed.specs.Appends.{Appends}
-use Rattle.pgp_feed.proofs.store.read.append_shared.Given as goal
+use Rattle.pgp_feed.proofs.store.append_shared.Given as goal
 
 abbrev pub invariant-loop-entry : goal.invariant-loop-entry
 invariant-loop-entry l = record {

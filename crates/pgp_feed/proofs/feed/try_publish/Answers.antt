@@ -4,7 +4,7 @@ use Rattle.pgp_feed.specs.declared.store.Content.{Content}
 use Rattle.pgp_feed.specs.OneLog.{SeesTold}
 use Rattle.pgp_feed.specs.Stores.{content_of, applied}
 use Rattle.pgp_feed.proofs.Puts.{put_turns, put_told, when_ok}
-use Rattle.pgp_feed.proofs.feed.steps.try_publish.Goals as goal
+use Rattle.pgp_feed.proofs.feed.try_publish.Goals as goal
 
 pub publish_as-next-requires : goal.publish_as-next-requires
 publish_as-next-requires g c next is =

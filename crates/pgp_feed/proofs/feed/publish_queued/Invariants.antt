@@ -1,6 +1,6 @@
 use Rattle.std.proofs.Common.{drop}
 use Rattle.pgp_feed.specs.Puts.{IsPut}
-use Rattle.pgp_feed.proofs.feed.steps.publish_queued.Given as goal
+use Rattle.pgp_feed.proofs.feed.publish_queued.Given as goal
 
 abbrev pub invariant-loop : goal.invariant-loop
 invariant-loop g l = record {
