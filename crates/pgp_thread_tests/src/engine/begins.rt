@@ -17,10 +17,8 @@ use pgp_ids::Entry;
 use pgp_log::JudgedLog;
 use pgp_shard::World;
 use std::marker::Brand;
-use std::sync::atomic::{AtomicBool, Ordering};
-use std::sync::{Arc, Wait};
+use std::sync::Arc;
 use std::test::Fail;
-use std::thread::join;
 
 #[test]
 fn an_engine_begins_with_a_log(rt: HostRuntime) -> Result<(), Fail> {
@@ -48,7 +46,7 @@ fn an_engine_begins_with_a_log(rt: HostRuntime) -> Result<(), Fail> {
 }
 
 // The engine answers as if the entries had been submitted, also where one has many owners, and takes what follows.
-fn begun_with<J: Naming + Send + Sync, R: Host>(
+fn begun_with<J: Naming, R: Host>(
     rt: &R,
     feed: Feed,
     taps: Vec<Tap>,
@@ -74,49 +72,12 @@ fn begun_with<J: Naming + Send + Sync, R: Host>(
         workers: SHARDS,
     };
     is_count(rt, desk.ask(rt), entries.len());
-    reads_once(rt, &desk, entries.first().expect(rt, "an entry"));
     let count = desk.put(rt, EMPTY_0);
     is_count(rt, desk.ask(rt), count);
     let mut client = clients.pop().expect(rt, "a client");
     is_count(rt, client.newest().len(), count);
     desk.end(rt);
     Ok(())
-}
-
-/// How often a shard is asked that has read all.
-const ASKS: usize = 1000;
-
-// No shard reads an entry a second time: while one is asked that has read all, no owner of an entry comes or goes. No gate forces
-// it that the one thread looks while the other asks; it looks until all was asked.
-fn reads_once<J: Naming + Send + Sync, R: Host>(rt: &R, desk: &Desk<J>, entry: &Arc<Entry>) {
-    let owners = Arc::strong_count(entry);
-    let over = &AtomicBool::new(false);
-    let (_, same) = join(
-        rt,
-        || ask_often(rt, desk, over),
-        || keeps_its_owners(rt, entry, owners, over),
-    );
-    assert!(rt; same, "a shard reads an entry once");
-}
-
-// Asks, and then raises the flag.
-fn ask_often<J: Naming>(rt: &impl Host, desk: &Desk<J>, over: &AtomicBool) {
-    for _ in 0..ASKS {
-        desk.ask(rt);
-    }
-    over.store(true, Ordering::SeqCst);
-}
-
-// The entry has as many owners at each look until the flag is raised.
-fn keeps_its_owners(rt: &impl Wait, entry: &Arc<Entry>, owners: usize, over: &AtomicBool) -> bool {
-    let mut same = true;
-    for _ in rt.forever() {
-        if over.load(Ordering::SeqCst) {
-            break;
-        }
-        same = same && Arc::strong_count(entry) == owners;
-    }
-    same
 }
 
 #[test]

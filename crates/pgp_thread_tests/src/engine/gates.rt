@@ -21,7 +21,8 @@ pub fn wait_for<R: Abort + Clock>(rt: &R, counted: &AtomicUsize, least: usize) {
 }
 
 /// Holds the workers of the first shards until it is opened, or the worker after one of its turns. It counts the turns that are over.
-pub struct HoldingGate<R: Abort + Clock> {
+#[derive(Drop)]
+pub struct HoldingGate<R: Abort + Clock + Drop> {
     rt: R,
     holds: usize,
     held: AtomicUsize,
@@ -30,21 +31,7 @@ pub struct HoldingGate<R: Abort + Clock> {
     opened: AtomicUsize,
 }
 
-// Written out, so that a function which lets one go has nothing to prove of what lies within.
-impl<R: Abort + Clock + Drop> Drop for HoldingGate<R> {
-    fn drop(self) {
-        let HoldingGate {
-            rt: _,
-            holds: _,
-            held: _,
-            over: _,
-            held_after: _,
-            opened: _,
-        } = self;
-    }
-}
-
-impl<R: Abort + Clock> HoldingGate<R> {
+impl<R: Abort + Clock + Drop> HoldingGate<R> {
     /// A gate that holds the workers of so many shards, and the worker after so many turns; after none if that is 0.
     pub fn new(rt: R, holds: usize, held_after: usize) -> Self {
         HoldingGate {
@@ -67,7 +54,7 @@ impl<R: Abort + Clock> HoldingGate<R> {
     }
 }
 
-impl<R: Abort + Clock> Gate for HoldingGate<R> {
+impl<R: Abort + Clock + Drop> Gate for HoldingGate<R> {
     fn enter<W: Wait>(&self, _rt: &W, shard: usize) {
         if shard < self.holds {
             let _before = self.held.fetch_add(1, Ordering::SeqCst);

@@ -4,11 +4,10 @@ ghost use Rattle.pgp_feed.specs.Feeds.{told_of};
 ghost use Rattle.pgp_feed.specs.Receipts.{entries_of, feed_of};
 ghost use Rattle.pgp_feed.specs.Taps.{last_of};
 
-use crate::engine::asked::ask_beside;
 use crate::engine::clients::outlive;
 use crate::engine::desk::Desk;
 use crate::engine::growths::call_again;
-use crate::engine::idle::{come_back, end_last, work_out, work_out_asked};
+use crate::engine::idle::{A_TURN, BEGUN, GROUPS, NEEDED, come_back, end_last, work_out};
 use crate::engine::submits::{fill_and_close, submit_many_times};
 use crate::engine::workers::{Beside, work_beside};
 use pgp_engine::{Engine, MakeFault, Naming};
@@ -36,14 +35,13 @@ pub enum Trial {
     ManySubmits,
     EachCallAgain,
     Works(Beside),
-    WorksOut { turns: usize, is_held: bool },
+    WorksOut,
     WorksOutAsked,
+    EndsLull,
     ComesBack,
     /// One of two shards of one worker has read all before the worker begins.
     FirstAhead,
     SecondAhead,
-    /// One worker serves both shards, while two threads ask.
-    Asked,
     Outlived,
 }
 
@@ -72,12 +70,12 @@ fn over<J: Naming + Send + Sync, R: Host>(
 {
     let workers = match trial {
         Trial::Works(Beside::FirstHeld) => SHARDS + 1,
-        Trial::WorksOut { .. }
+        Trial::WorksOut
         | Trial::WorksOutAsked
+        | Trial::EndsLull
         | Trial::ComesBack
         | Trial::FirstAhead
-        | Trial::SecondAhead
-        | Trial::Asked => 1,
+        | Trial::SecondAhead => 1,
         _ => SHARDS,
     };
     let (engine, clients) = Engine::<J>::make(rt, rt.alloc(), feed, taps, SHARDS, workers)?;
@@ -87,12 +85,13 @@ fn over<J: Naming + Send + Sync, R: Host>(
         Trial::ManySubmits => submit_many_times(rt, &desk),
         Trial::EachCallAgain => call_again(rt, &desk, clients),
         Trial::Works(beside) => work_beside(rt, beside, &desk, clients),
-        Trial::WorksOut { turns, is_held } => work_out(rt, &desk, *turns, *is_held),
-        Trial::WorksOutAsked => work_out_asked(rt, &desk),
+        Trial::WorksOut => work_out(rt, &desk, GROUPS / 2, GROUPS, NEEDED, false),
+        // As many groups are left as a turn works out, besides the one that is touched.
+        Trial::WorksOutAsked => work_out(rt, &desk, GROUPS, GROUPS - A_TURN, BEGUN, false),
+        Trial::EndsLull => work_out(rt, &desk, GROUPS / 2, GROUPS, BEGUN, true),
         Trial::ComesBack => come_back(rt, &desk),
         Trial::FirstAhead => end_last(rt, &desk, 0),
         Trial::SecondAhead => end_last(rt, &desk, 1),
-        Trial::Asked => ask_beside(rt, &desk),
         Trial::Outlived => {
             outlive(rt, desk, clients);
             return Ok(());
