@@ -1,18 +1,9 @@
 //! Devices and groups by their numbers.
 
-ghost use Rattle.std.specs.Prelude.{◌≡◌};
-
 use pgp_ids::{MAX_OSDS, OsdId, Osds, PgId, Place, PoolId};
 
 /// A number that no device has: an empty place of a list.
 pub const NO_OSD: u16 = 9999;
-
-/// The device of this number.
-pub fn osd(number: u8) -> OsdId
-    ensures { result ≡ number }
-{
-    OsdId::new(u16::from(number)).unwrap()
-}
 
 /// The list of these devices; a number out of range is an empty place.
 pub fn places(numbers: &[u16]) -> Osds {

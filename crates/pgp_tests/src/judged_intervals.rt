@@ -1,8 +1,8 @@
 //! How often an index of a prior set asks the code, as a device changes and as an interval may have gone read-write after all.
 
 use pgp_code::{Erasure, Recoverable};
-use pgp_fixtures::{NO_OSD, lying_on, osd, two_epochs};
-use pgp_ids::{Epoch, OsdId, SlotSet};
+use pgp_fixtures::places;
+use pgp_ids::{Epoch, Membership, OsdId, Past, SlotSet};
 use pgp_prior::{PriorIndex, prior};
 use pgp_sets::Status::{Down, Gone, Up};
 use pgp_sets::{Status, StatusOf};
@@ -58,23 +58,37 @@ impl<'a> Recoverable for CountingCode<'a> {
     }
 }
 
-const NONE: u16 = NO_OSD;
+/// A group of three members, of which two are enough to serve, that lies on these devices.
+fn lying_on(osds: &[u16]) -> Membership {
+    let up = places(osds);
+    let acting = up.copy();
+    Membership {
+        up_primary: up.first(),
+        up,
+        acting_primary: acting.first(),
+        acting,
+        size: 3,
+        min_size: 2,
+    }
+}
 
-/// The acting devices of four intervals in which a group went read-write, in slots of their own. Device 6 is always up, and
-/// device 1 is in all but the third.
+/// An interval two epochs long, in which the group lay on these devices, and may have gone read-write or not.
+fn two_epochs(first: u32, osds: &[u16], rw: bool) -> Past {
+    Past {
+        first: Epoch::new(first),
+        last: Epoch::new(first.saturating_add(1)),
+        members: lying_on(osds),
+        rw,
+    }
+}
+
+/// The acting devices of four intervals in which a group went read-write. Device 6 is always up, and device 1 is in all but the
+/// third.
 static FOUR: [(u32, &[u16]); 4] = [
     (1, &[6, 1, 2, 3]),
-    (3, &[NONE, NONE, NONE, NONE, 6, 1, 4, 5]),
-    (
-        5,
-        &[NONE, NONE, NONE, NONE, NONE, NONE, NONE, NONE, 6, 2, 4, 5],
-    ),
-    (
-        7,
-        &[
-            NONE, NONE, NONE, NONE, NONE, NONE, NONE, NONE, NONE, NONE, NONE, NONE, 6, 1, 2, 0,
-        ],
-    ),
+    (3, &[6, 1, 4, 5]),
+    (5, &[6, 2, 4, 5]),
+    (7, &[6, 1, 2, 0]),
 ];
 
 #[test]
@@ -87,22 +101,23 @@ fn each_interval_that_may_have_turned_is_judged_once(rt: HostRuntime) -> Result<
     let mut table = Table {
         statuses: [Up, Down, Up, Down, Down, Down],
     };
-    let current = lying_on(&[0, 2, 6], &[0, 2, 6]);
+    let current = lying_on(&[0, 2, 6]);
     let mut index = PriorIndex::begin(rt.alloc(), code, current, Epoch::new(0));
     for (first, acting) in &FOUR {
-        index.add_past(two_epochs(*first, lying_on(acting, acting), true), &table)?;
+        index.add_past(two_epochs(*first, acting, true), &table)?;
     }
     assert!(rt; asked.swap(0, Ordering::SeqCst) == 4);
+    let osd = OsdId::new(1).unwrap();
     // The first and the second interval block the group, and the fourth has enough.
     table.statuses[1] = Up;
-    index.device_better(osd(1), &table);
+    index.device_better(osd, &table);
     assert!(rt; asked.swap(0, Ordering::SeqCst) == 2);
     // The second interval still blocks it.
     table.statuses[1] = Down;
-    index.device_worse(osd(1), &table);
+    index.device_worse(osd, &table);
     assert!(rt; asked.swap(0, Ordering::SeqCst) == 2);
     table.statuses[1] = Gone;
-    index.device_gone(osd(1), &table);
+    index.device_gone(osd, &table);
     assert!(rt; asked.swap(0, Ordering::SeqCst) == 3);
     // An interval that went read-write already, and one that is not there.
     index.raise(0);
@@ -119,11 +134,11 @@ fn an_index_has_the_prior_set_of_a_walk(rt: HostRuntime) -> Result<(), Fail> {
     let table = Table {
         statuses: [Up, Down, Down, Up, Up, Up],
     };
-    let current = lying_on(&[], &[0, 3, 4]);
-    let past = [two_epochs(1, lying_on(&[], &[0, 1, 2]), true)];
+    let current = lying_on(&[0, 3, 4]);
+    let past = [two_epochs(1, &[0, 1, 2], true)];
     let walked = prior(rt.alloc(), &code, &past, &current, Epoch::new(0), &table)?;
     let mut index = PriorIndex::begin(rt.alloc(), code, current, Epoch::new(0));
-    index.add_past(two_epochs(1, lying_on(&[], &[0, 1, 2]), false), &table)?;
+    index.add_past(two_epochs(1, &[0, 1, 2], false), &table)?;
     assert!(rt; walked.down && !index.prior()?.down);
     index.raise(0);
     assert!(rt; index.prior()?.down);

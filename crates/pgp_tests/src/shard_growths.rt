@@ -6,10 +6,9 @@ ghost use Rattle.pgp_log.specs.Fits.{fits};
 ghost use Rattle.pgp_log.specs.Judge.{CanTake, IsJudgeOf, OfItsLog};
 
 use pgp_fixtures::{TO_SERVE, entry, group};
-use pgp_ids::{AskRefusal, Entry, PgId, Verdict, View};
+use pgp_ids::{AskRefusal, Entry, PgId, Verdict};
 use pgp_log::Judge;
 use pgp_shard::ShardState;
-use std::alloc::{AllocError, Global};
 use std::process::Abort;
 use std::sync::Arc;
 
@@ -46,13 +45,6 @@ fn follow(rt: &impl Abort, judge: &mut Judge, entry: &Entry)
 }
 
 impl Reader {
-    fn start(alloc: Global) -> Reader {
-        Reader {
-            state: ShardState::start(alloc, 0, 1),
-            judge: Judge::start(alloc),
-        }
-    }
-
     // Reads the entry that the line is, or says that there was no memory.
     fn read<R: Abort + AllocGlobal>(&mut self, rt: &R, line: &str) -> Option<()> {
         let entry = Arc::new(rt.alloc(), entry(rt.alloc(), line)?).ok()?;
@@ -66,20 +58,6 @@ impl Reader {
         Some(())
     }
 
-    fn ask(&mut self, rt: &impl Abort, pg: u16) -> Result<View, AskRefusal> {
-        let pg = PgId { pg, ..group() };
-        assert!(rt; self.state.owns(&pg), "a group of the only shard");
-        self.state.ask(pg)
-    }
-
-    fn renew(&mut self, most: usize) -> Result<usize, AllocError> {
-        self.state.renew(most)
-    }
-
-    fn changed(&mut self) -> Result<usize, AllocError> {
-        Ok(self.state.changed_since(0)?.len())
-    }
-
     /// Reads it, at the second try where the first lacks memory; then it has read what it had read.
     fn read_surely<R: Abort + AllocGlobal>(&mut self, rt: &R, line: &str) {
         let count = self.state.count();
@@ -91,8 +69,10 @@ impl Reader {
 
     /// The group has this verdict, at the second try where the first lacks memory.
     fn answers(&mut self, rt: &impl Abort, pg: u16, verdict: Verdict) {
-        let asked = match self.ask(rt, pg) {
-            Err(AskRefusal::Memory) => self.ask(rt, pg),
+        let pg = PgId { pg, ..group() };
+        assert!(rt; self.state.owns(&pg), "a group of the only shard");
+        let asked = match self.state.ask(pg) {
+            Err(AskRefusal::Memory) => self.state.ask(pg),
             asked => asked,
         };
         let view = asked.ok().expect(rt, "a view");
@@ -102,8 +82,8 @@ impl Reader {
 
     /// So many groups are left, at the second try where the first lacks memory.
     fn leaves(&mut self, rt: &impl Abort, most: usize, expected: usize) {
-        let left = match self.renew(most) {
-            Err(_) => self.renew(most),
+        let left = match self.state.renew(most) {
+            Err(_) => self.state.renew(most),
             left => left,
         };
         assert_eq!(rt; left.ok(), Some(expected));
@@ -111,18 +91,21 @@ impl Reader {
 
     /// So many groups may have changed since it had read nothing, at the second try where the first lacks memory.
     fn has_changed(&mut self, rt: &impl Abort, expected: usize) {
-        let changed = match self.changed() {
-            Err(_) => self.changed(),
+        let changed = match self.state.changed_since(0) {
+            Err(_) => self.state.changed_since(0),
             changed => changed,
         };
-        assert_eq!(rt; changed.ok(), Some(expected));
+        assert_eq!(rt; changed.ok().expect(rt, "the groups").len(), expected);
     }
 }
 
 /// Each entry marks group 0, and group 3 was worked out before. Of all allocations one may be refused.
 #[test]
 fn each_call_of_a_shard_can_be_made_again(rt: HostRuntime) {
-    let mut reader = Reader::start(rt.alloc());
+    let mut reader = Reader {
+        state: ShardState::start(rt.alloc(), 0, 1),
+        judge: Judge::start(rt.alloc()),
+    };
     reader.read_surely(&rt, FOUR_GROUPS);
     reader.leaves(&rt, 1, 3);
     for (line, verdict) in TO_SERVE[1..].iter().zip(VERDICTS) {

@@ -1,7 +1,8 @@
 //! Placements that Ceph's own tool makes too.
 
 use pgp_crush::{Rule, place};
-use pgp_fixtures::{NO_OSD, incremental, places};
+use pgp_fixtures::{NO_OSD, entry, places};
+use pgp_ids::Entry;
 use pgp_map::OsdMap;
 use std::test::Fail;
 
@@ -42,7 +43,8 @@ fn weights() -> [u32; 4096] {
 #[test]
 fn placements_are_those_of_ceph(rt: HostRuntime) -> Result<(), Fail> {
     let mut map = OsdMap::empty(rt.alloc());
-    let inc = incremental(rt.alloc(), FOUR_LEVELS).ok_or("no incremental")?;
+    let inc = entry(rt.alloc(), FOUR_LEVELS).and_then(Entry::into_incremental);
+    let inc = inc.ok_or("no incremental")?;
     map.check(&inc)?;
     map.apply(&inc)?;
     let weights = weights();
