@@ -87,19 +87,8 @@ impl Feed {
         Ok((feed, list))
     }
 
-    // One more tap, which has seen what was told. `None`: it wasn't given a reader's place.
-    fn tap(&mut self) -> Option<Tap>
-        ensures told { told_of self.new ≡ told_of self.old }
-        ensures last { IfSome result (λ tap. last_of tap ≡ told_of self.old) }
-    {
-        let Ok(mut reader) = self.writer.factory().reader() else {
-            return None;
-        };
-        reader.learn::<Tells>(self.writer.tell::<Tells>());
-        Some(Tap::over(reader, self.told.again()))
-    }
-
-    // As many taps as are asked for, in a list with room for them. `None`: one of them wasn't given its place.
+    // As many taps as are asked for, in a list with room for them; each has seen what was told. `None`: one of them wasn't given
+    // a reader's place.
     fn taps(&mut self, list: Vec<Tap>, count: usize) -> Option<Vec<Tap>>
         requires { (list.items ≡ []) × (count ≤ vec_capacity list) }
         ensures told { told_of self.new ≡ told_of self.old }
@@ -108,8 +97,11 @@ impl Feed {
     {
         let mut taps = list;
         while taps.len() < count {
-            let tap = self.tap()?;
-            taps.push(tap).unwrap();
+            let Ok(mut reader) = self.writer.factory().reader() else {
+                return None;
+            };
+            reader.learn::<Tells>(self.writer.tell::<Tells>());
+            taps.push(Tap::over(reader, self.told.again())).unwrap();
         }
         Some(taps)
     }

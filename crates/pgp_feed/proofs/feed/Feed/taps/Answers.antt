@@ -1,6 +1,6 @@
 use Rattle.std.proofs.Common.{rules}
 use Rattle.pgp_feed.proofs.Views.{admits, forks, merges}
-use Rattle.pgp_feed.proofs.feed.Feed.tap.Goals as goal
+use Rattle.pgp_feed.proofs.feed.Feed.taps.Goals as goal
 
 pub reader-requires : goal.reader-requires
 reader-requires c = admits
