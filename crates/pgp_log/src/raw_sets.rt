@@ -50,16 +50,7 @@ impl RawSets {
             → AreRawSets (incs_of (log ++ entry.now ∷ [])) self.new }
         ensures kept { (incs : List AnyIncremental) → AreRawSets incs self.old → AreRawSets incs self.new }
     {
-        if may_move(entry) {
-            self.clear();
-        }
-    }
-
-    /// Forgets all of them.
-    fn clear(&mut self)
-        ensures { (incs : List AnyIncremental) → AreRawSets incs self.new }
-    {
-        if !self.known.is_empty() {
+        if may_move(entry) && !self.known.is_empty() {
             self.known.clear();
         }
     }
