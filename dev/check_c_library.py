@@ -111,7 +111,7 @@ def wanted_numbers():
     for source, pattern, memory in (
         ("pgp_c/src/status.rt", r"Status::(\w+) => (\d+)", None),
         ("pgp_c/src/view.rt", r"Verdict::(\w+) => (\d+)", None),
-        ("pgp_c/src/lists.rt", r"PeerState::(\w+)(?:\(_\))? => (\d),\n", None),
+        ("pgp_c/src/lists.rt", r"PeerState::(\w+)(?:\(\w+\))? => \((\d), ", None),
         ("pgp_ids/src/locate_refusal.rt", r"LocateRefusal::(UnknownPool) => (\d+)", None),
         ("pgp_ids/src/text_fault.rt", r"TextFault::(\w+)(?:\(_\))? => (\d+)", "PGP_LINE_MEMORY"),
         ("pgp_ids/src/refusal.rt", r"Refusal::(\w+)(?:\(_\))? => (\d+)", "PGP_ENTRY_MEMORY"),

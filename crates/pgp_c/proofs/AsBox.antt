@@ -8,7 +8,7 @@ use Rattle.std_heap.specs.contracts.GlobalAllocator.TheImpl.{ghosts, dict}
 use Rattle.std_heap.proofs.Global.TheLaws as heap
 use Rattle.pgp_core.specs.contracts.session.Session as Session
 use Rattle.pgp_core.proofs.session.Session.TheLaws as session
-use Rattle.pgp_c.specs.contracts.held_session.parts.Parts as Parts
+use Rattle.pgp_c.specs.contracts.held_session.Parts as Parts
 use Rattle.pgp_c.specs.contracts.held_session.HeldSession as HeldSession
 
 abbrev pub E : Bx

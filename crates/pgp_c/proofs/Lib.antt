@@ -7,3 +7,4 @@ pub mod OpenLemmas
 pub mod SessionSend
 pub mod ReportLemmas
 pub mod NeededLemmas
+pub mod FromFnLemmas

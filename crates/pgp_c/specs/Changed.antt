@@ -7,7 +7,7 @@ use Rattle.pgp_core.specs.Session.{LogAndAnswer}
 use Rattle.pgp_c.specs.Exports.{put_into, put_status}
 use Rattle.pgp_c.specs.Lists.{PutsNone}
 use Rattle.pgp_c.specs.Status.{status_number}
-use Rattle.pgp_c.specs.declared.changed.PgpGroup.{PgpGroup}
+use Rattle.pgp_c.specs.declared.lists.PgpGroup.{PgpGroup}
 use Rattle.pgp_c.specs.declared.status.Status.TheVariants.{NoMemory, NotOpen}
 
 abbrev pub pgp_group_of : PgId → PgpGroup

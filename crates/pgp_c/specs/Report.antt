@@ -1,5 +1,5 @@
 -- How a part of a member's log that C tells ends. This project's own choice.
-use Rattle.std.specs.Prelude.{◌≡◌, ◌⊎◌, ℕ, ◌≤◌, List, length, map, take, Bool, true, ◌&&◌, nat_eq, nat_le, Option, Some, None, if◌then◌else◌}
+use Rattle.std.specs.Prelude.{◌≡◌, ◌⊎◌, ℕ, ◌≤◌, List, length, map, take, Bool, true, ◌&&◌, nat_eq, nat_le, Option, Some, None, Result, Ok, Err, if◌then◌else◌}
 use Rattle.std.specs.List.{list_all}
 use Rattle.std.specs.Str.{is_utf8}
 use Rattle.pgp_ids.specs.declared.entry.Entry.TheVariants as entry
@@ -14,6 +14,7 @@ use Rattle.pgp_c.specs.Status.{status_number}
 use Rattle.pgp_c.specs.Submit.{TellsEntry}
 use Rattle.pgp_c.specs.declared.report.PgpLogEntry.{PgpLogEntry}
 use Rattle.pgp_c.specs.declared.report.PgpReport.{PgpReport}
+use Rattle.pgp_c.specs.declared.status.Status.{Status}
 use Rattle.pgp_c.specs.declared.status.Status.TheVariants.{NoMemory, NotOpen, BadArgument}
 
 -- the name that a log entry has
@@ -34,6 +35,10 @@ told_log_entry it = record {
   object = given_name it;
 }
 
+-- the log entry with these numbers and this name, if they are those of one
+abbrev pub given_log_entry : PgpLogEntry → Option LogEntry
+given_log_entry it = if is_log_entry it then Some (told_log_entry it) else None
+
 -- the numbers and names are those of a part of a log
 pub record IsReport (report : PgpReport) (log : List PgpLogEntry) : Type 0 where
   pub of_group : AreOfGroup report.pool report.pg
@@ -49,6 +54,11 @@ told_report report log = record {
   stamp = report.stamp;
   log = map told_log_entry log;
 }
+
+-- the part of a log, or why none was made: the numbers and names are those of none, or there was no memory for it
+abbrev pub IsReportMade : Result Report Status → PgpReport → List PgpLogEntry → Type 0
+IsReportMade (Ok made) report log = IsReport report log × (made ≡ told_report report log)
+IsReportMade (Err why) report log = (IsReport report log × (why ≡ NoMemory)) ⊎ ((IsReport report log → ⊥) × (why ≡ BadArgument))
 
 -- there was no memory for it, whatever the log says of it
 pub record LacksReport (was now : LogAndAnswer) (status : ℕ) : Type 0 where

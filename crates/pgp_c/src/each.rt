@@ -1,8 +1,9 @@
-//! Lists, as C reads and gives them.
+//! Lists and texts, as C reads and gives them.
 
 ghost use Rattle.std.specs.Prelude.{◌≡◌, Option, length, map};
 ghost use Rattle.pgp_c.specs.Each.{IsGiven, each_given};
 ghost use Rattle.pgp_c.specs.Exports.{put_into, put_status};
+ghost use Rattle.pgp_c.specs.Needed.{flag};
 
 use super::status::Status;
 use pgp_ids::Seq;
@@ -32,6 +33,29 @@ pub fn put_each<T: AsC<C>, C: Copy>(values: &[T], room: &mut [C], count: &mut us
         room[index] = value.as_c();
     }
     Status::Done
+}
+
+/// Puts a text at the start of `room` if it fits, and its length into `len`.
+pub fn put_out(text: &[u8], room: &mut [u8], len: &mut usize) -> Status
+    ensures room { room.new ≡ put_into text.now room.old }
+    ensures len { len.new ≡ length text.now }
+    ensures status { result ≡ put_status text.now room.old }
+{
+    *len = text.len();
+    if text.len() > room.len() {
+        return Status::RoomTooSmall;
+    }
+    room[..text.len()].copy_from_slice(text);
+    Status::Done
+}
+
+/// 1 where it is true, else 0.
+impl AsC<u8> for bool {
+    ghost as_c = { flag };
+
+    fn as_c(&self) -> u8 {
+        u8::from(*self)
+    }
 }
 
 /// A value that C gives as one of the type `C`.

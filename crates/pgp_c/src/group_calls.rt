@@ -8,9 +8,8 @@ ghost use Rattle.pgp_c.specs.Locate.{Locates};
 ghost use Rattle.pgp_c.specs.Objects.{Objects};
 
 use super::ask::ask;
-use super::changed::PgpGroup;
 use super::each::put_each;
-use super::lists::{PgpInterval, PgpMember, PgpPeer, put_list};
+use super::lists::{PgpGroup, PgpInterval, PgpMember, PgpPeer, put_list};
 use super::locate::locate;
 use super::objects::{PgpObject, put_objects};
 use super::place::PgpPlace;

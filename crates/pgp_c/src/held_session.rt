@@ -1,14 +1,12 @@
 //! A session behind a pointer that a C program holds.
 
 ghost use Rattle.std.specs.Prelude.{◌≡◌, Option, Some, None, true, is_some};
+ghost use Rattle.std.specs.Box.Ownership.{box_owns};
 ghost use Rattle.pgp_core.specs.Session.{LogAndAnswer};
 ghost use Rattle.pgp_c.specs.HeldSession.{held_owns, session_coded};
 
-mod parts;
-
-use parts::Parts;
 use pgp_core::Session;
-use std::alloc::Global;
+use std::alloc::{Allocator, Global};
 use std::marker::Model;
 use std::ptr::null_mut;
 
@@ -80,5 +78,36 @@ impl HeldSession {
             ptr: at as *mut Session,
             alloc,
         }
+    }
+}
+
+/// The pointer and the allocator of a box.
+struct Parts<T, A: Allocator> {
+    ptr: *mut T,
+    alloc: A,
+    pub ghost value: { T },
+}
+
+impl<T, A: Allocator> Model for Parts<T, A> {
+    ghost also_owns = { λ p. box_owns (A.dealloc_token p.alloc) T.row p.ptr p.value };
+}
+
+impl<T, A: Allocator> Parts<T, A> {
+    /// Takes a box apart.
+    fn of(b: Box<T, A>) -> Parts<T, A>
+    where
+        T: Drop,
+        ensures { result.value ≡ b.value }
+    {
+        let (ptr, alloc) = Box::into_raw_with_allocator(b);
+        Parts { ptr, alloc }
+    }
+
+    /// Puts the box together.
+    fn into_box(self) -> Box<T, A>
+        ensures { result.value ≡ self.value }
+    {
+        let Parts { ptr, alloc } = self;
+        unsafe { Box::from_raw(alloc, ptr) }
     }
 }

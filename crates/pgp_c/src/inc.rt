@@ -1,7 +1,7 @@
 //! A map incremental, as C gives it.
 
 ghost use Rattle.pgp_c.specs.Each.{IsGiven, PutsGiven};
-ghost use Rattle.pgp_c.specs.Inc.{SubmitsGiven, after_of, given_inc, allowed_tree, tree_of, with_devices, with_given_pools};
+ghost use Rattle.pgp_c.specs.Inc.{SubmitsGiven, after_of, given_inc, allowed_tree, with_devices, with_given_pools};
 
 use super::devices::{PgpDeviceEpoch, PgpDeviceWeight};
 use super::each::each_of;
@@ -97,19 +97,12 @@ fn tree_in(
 ) -> Result<Option<Seq<BucketSpec>>, Status>
     ensures { IsGiven result (allowed_tree format given.now) }
 {
-    let tree = tree_of(alloc, given.crush)?;
+    if given.crush.is_empty() {
+        return Ok(None);
+    }
+    let tree = Some(each_of(alloc, given.crush)?);
     if !format.has_tree(&tree) {
         return Err(Status::BadArgument);
     }
     Ok(tree)
-}
-
-/// The tree of these buckets, where there is one.
-fn tree_of(alloc: Global, buckets: &[PgpBucket<'_>]) -> Result<Option<Seq<BucketSpec>>, Status>
-    ensures { IsGiven result (tree_of buckets.now) }
-{
-    if buckets.is_empty() {
-        return Ok(None);
-    }
-    Ok(Some(each_of(alloc, buckets)?))
 }

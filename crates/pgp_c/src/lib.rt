@@ -8,28 +8,21 @@
 #![tactic(auto)]
 
 mod ask;
-mod changed;
-mod compact;
-mod copy;
 mod devices;
 mod each;
 mod group_calls;
 mod held_session;
 mod inc;
 mod info;
-mod joined_lines;
 mod lists;
 mod locate;
 mod log;
 mod log_calls;
-mod needed;
 mod objects;
-mod open;
 mod open_lines;
 mod place;
 mod pools;
 mod report;
-mod room;
 mod session;
 mod session_calls;
 mod status;

@@ -3,14 +3,15 @@
 ghost use Rattle.std.specs.Prelude.{◌≡◌, ℕ, List, map, refl};
 ghost use Rattle.pgp_group.specs.Touched.{view_at};
 ghost use Rattle.pgp_ids.specs.declared.view.View.{View as AnyView};
-ghost use Rattle.pgp_c.specs.Lists.{Lists, pgp_device, interval_of, lacking_count, member_of, peer_of, peer_state_number};
+ghost use Rattle.pgp_c.specs.Changed.{pgp_group_of};
+ghost use Rattle.pgp_c.specs.Lists.{Lists, pgp_device, interval_of, member_of, peer_of};
 
 use super::ask::ask;
 use super::each::{AsC, put_each};
 use super::place::{device_number, sixteen};
 use super::session::PgpSession;
 use super::status::Status;
-use pgp_ids::{Member, OsdId, Past, PeerMissing, PeerState, View};
+use pgp_ids::{Member, OsdId, Past, PgId, PeerMissing, PeerState, View};
 use std::alloc::Global;
 
 /// A member of a group.
@@ -53,6 +54,15 @@ pub struct PgpPeer {
     pub slot: u8,
     /// 0: it has all objects except these; 1: backfill; 2: diverged.
     pub state: u8,
+}
+
+/// A placement group.
+#[repr(C)]
+#[derive(Clone, Copy)]
+pub struct PgpGroup {
+    pub pool: u32,
+    /// Its number in its pool.
+    pub pg: u32,
 }
 
 /// A value of which a view has a list.
@@ -179,32 +189,27 @@ impl AsC<PgpPeer> for PeerMissing {
     ghost as_c = { peer_of };
 
     fn as_c(&self) -> PgpPeer {
+        let (state, objects) = match &self.state {
+            PeerState::Missing(objects) => (0, objects.len()),
+            PeerState::Backfill => (1, 0),
+            PeerState::Diverged => (2, 0),
+        };
         PgpPeer {
-            objects: lacks(&self.state),
+            objects,
             osd: self.member.osd.number(),
             slot: self.member.slot,
-            state: state_number(&self.state),
+            state,
         }
     }
 }
 
-/// How many objects a member lacks, where that is its state.
-fn lacks(state: &PeerState) -> usize
-    ensures { result ≡ lacking_count state.now }
-{
-    match state {
-        PeerState::Missing(objects) => objects.len(),
-        PeerState::Backfill | PeerState::Diverged => 0,
-    }
-}
+impl AsC<PgpGroup> for PgId {
+    ghost as_c = { pgp_group_of };
 
-/// The number by which C knows a state.
-fn state_number(state: &PeerState) -> u8
-    ensures { result ≡ peer_state_number state.now }
-{
-    match state {
-        PeerState::Missing(_) => 0,
-        PeerState::Backfill => 1,
-        PeerState::Diverged => 2,
+    fn as_c(&self) -> PgpGroup {
+        PgpGroup {
+            pool: u32::from(self.pool.number()),
+            pg: u32::from(self.pg),
+        }
     }
 }

@@ -50,7 +50,7 @@ pub fn pool_of(pool: u32) -> Option<PoolId>
 }
 
 /// The object's name that these bytes are, if they are one.
-fn name_of(alloc: Global, name: &[u8]) -> Result<ObjectName, Status>
+pub fn name_of(alloc: Global, name: &[u8]) -> Result<ObjectName, Status>
     ensures ok { IfOk result (λ object. (object ≡ name.now) × IsName name.now) }
     ensures bad { result ≡ Err Status.BadArgument → IsName name.now → ⊥ }
     ensures memory { result ≡ Err Status.NoMemory → IsName name.now × (24 < length name.now) }

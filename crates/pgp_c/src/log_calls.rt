@@ -1,27 +1,30 @@
 //! Calls that tell a session's log entries in values, say what it has, and shorten it.
 
+ghost use Rattle.std.specs.Prelude.{◌≡◌, ◌-◌, length, IfOk, IfSome, OnOk, OnErr};
+ghost use Rattle.pgp_compact.specs.Compacted.{compacted};
 ghost use Rattle.pgp_c.specs.Compact.{Compacts};
 ghost use Rattle.pgp_c.specs.Inc.{SubmitsInc};
 ghost use Rattle.pgp_c.specs.Info.{Submits};
-ghost use Rattle.pgp_c.specs.JoinedLines.{Joins};
+ghost use Rattle.pgp_c.specs.JoinedLines.{Joins, JoinsIn, StandFor};
 ghost use Rattle.pgp_c.specs.Log.{AsksLog};
 ghost use Rattle.pgp_c.specs.Needed.{Needs};
 ghost use Rattle.pgp_c.specs.Report.{SubmitsEntries};
 ghost use Rattle.pgp_c.specs.Submit.{SubmitsClose};
 
-use super::compact::compact_log;
-use super::each::put_each;
+use super::each::{put_each, put_out};
 use super::inc::{PgpInc, submit_inc};
 use super::info::{PgpInfo, submit_info};
-use super::joined_lines::put_joined_lines;
 use super::log::{PgpLog, log_of};
 use super::report::{PgpLogEntry, PgpReport, submit_entries};
 use super::session::PgpSession;
 use super::status::Status;
 use super::submit::tell;
-use pgp_compact::needed;
+use pgp_compact::laws::a_compacted_log_is_legal;
+use pgp_compact::{compact, needed};
+use pgp_core::Session;
 use pgp_ids::Entry;
-use std::alloc::Global;
+use pgp_join::joined_lines;
+use std::alloc::{AllocError, Global};
 
 /// Adds to the session's log a map incremental. If the log refuses it, the status is the number of the refusal.
 #[unsafe(no_mangle)]
@@ -142,6 +145,21 @@ pub extern "C" fn pgp_compact_log(
     }
 }
 
+/// Removes from the session's log reports that no answer needs, and answers their number.
+fn compact_log(alloc: Global, session: &mut Session) -> Result<usize, AllocError>
+    ensures log { OnOk result (session.new.log ≡ compacted session.old.log) }
+    ensures less { IfOk result (λ less. less ≡ length session.old.log - length session.new.log) }
+    ensures answer { session.new.answer ≡ session.old.answer }
+    ensures format { session.new.format ≡ session.old.format }
+    ensures kept { OnErr result (session.new.log ≡ session.old.log) }
+{
+    a_compacted_log_is_legal();
+    let kept = compact(alloc, session.entries())?;
+    let less = session.entries().len() - kept.len();
+    session.go_on_with(kept.as_slice())?;
+    Ok(less)
+}
+
 /// Has the session answer with lines that may stand for its log, as with the answer to a line.
 #[unsafe(no_mangle)]
 pub extern "C" fn pgp_joined_lines(
@@ -159,4 +177,34 @@ pub extern "C" fn pgp_joined_lines(
     let status = put_joined_lines(alloc, &mut opened, room, length);
     session.put(opened);
     status
+}
+
+/// Puts lines that may stand for the session's log at the start of `room` if they fit, and how many bytes they have into `length`.
+/// They are the session's answer from then on.
+fn put_joined_lines(
+    alloc: Global,
+    session: &mut Session,
+    room: &mut [u8],
+    length: &mut usize,
+) -> u32
+    requires { length.old ≡ 0 }
+    ensures { JoinsIn session.old session.new room.old room.new length.new result }
+{
+    match lines_of(alloc, session) {
+        Ok(Some(text)) => {
+            session.answer_with(text);
+            put_out(session.last_answer(), room, length).number()
+        }
+        Ok(None) => Status::NoLines.number(),
+        Err(_) => Status::NoMemory.number(),
+    }
+}
+
+/// Lines that may stand for the session's log, where such are found.
+fn lines_of(alloc: Global, session: &Session) -> Result<Option<Vec<u8>>, AllocError>
+    ensures { IfOk result (λ found. IfSome found (λ text. StandFor session.now.log text.items)) }
+{
+    a_compacted_log_is_legal();
+    let kept = compact(alloc, session.entries())?;
+    joined_lines(alloc, kept.as_slice())
 }

@@ -1,7 +1,7 @@
 //! The objects that a member of a placement group lacks, as C reads them.
 
 ghost use Rattle.std.specs.Prelude.{◌≡◌, option_map};
-ghost use Rattle.pgp_c.specs.Objects.{ObjectsIn, PutsObjects, lacked, name_room, pgp_object, objects_of};
+ghost use Rattle.pgp_c.specs.Objects.{ObjectsIn, lacked, name_room, pgp_object, objects_of};
 
 use super::ask::ask;
 use super::each::{AsC, put_each};
@@ -64,24 +64,11 @@ pub fn put_objects(
         return Status::BadArgument.number();
     };
     match ask(session, pool, pg) {
-        Ok(view) => put_lacked(view.missing.as_slice(), member, room, count),
+        Ok(view) => match objects_of(view.missing.as_slice(), member) {
+            Some(objects) => put_each(objects, room, count).number(),
+            None => Status::NoList.number(),
+        },
         Err(status) => status,
-    }
-}
-
-/// Puts the objects that a member lacks by these states into `room` if they fit, and their number into `count`.
-fn put_lacked(
-    peers: &[PeerMissing],
-    member: Member,
-    room: &mut [PgpObject],
-    count: &mut usize,
-) -> u32
-    requires { count.old ≡ 0 }
-    ensures { PutsObjects (objects_of peers.now member) room.old room.new count.new result }
-{
-    match objects_of(peers, member) {
-        Some(objects) => put_each(objects, room, count).number(),
-        None => Status::NoList.number(),
     }
 }
 

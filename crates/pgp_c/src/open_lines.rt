@@ -3,30 +3,33 @@
 ghost use Rattle.std.specs.Prelude.{◌≡◌, ◌≤◌, if◌then◌else◌, IfOk, OnOk};
 ghost use Rattle.pgp_core.specs.Added.{added_by, with_added};
 ghost use Rattle.pgp_core.specs.Lines.{lines_of};
+ghost use Rattle.pgp_c.specs.Exports.{session_format};
 ghost use Rattle.pgp_c.specs.OpenLines.{BeginsWith, HasReadLines, IsLineRefused, OpensLines, is_refused_outcome};
 
 use super::session::PgpSession;
+use super::session_calls::session_format;
 use super::status::Status;
 use pgp_core::{LineOutcome, Session, first_line};
 use pgp_lines::Format;
 use std::alloc::{AllocError, Global};
 
-/// Opens a session with the log that the lines of the text make, up to this version, where there is one. How many of the lines are
-/// refused goes into `refused`.
-pub fn open_lines(
+/// Opens a session with the log that the lines of a text make, up to the version of this number, and puts into `refused` how many of
+/// them are refused.
+#[unsafe(no_mangle)]
+pub extern "C" fn pgp_open_lines(
     alloc: Global,
     session: &mut PgpSession,
-    format: Option<Format>,
+    format: u32,
     text: &[u8],
     refused: &mut usize,
 ) -> u32
-    requires { refused.old ≡ 0 }
-    ensures { OpensLines format text.now session.old.held.session session.new.held.session refused.new result }
+    ensures { OpensLines (session_format format) text.now session.old.held.session session.new.held.session refused.new result }
 {
+    *refused = 0;
     if session.is_open {
         return Status::AlreadyOpen.number();
     }
-    let Some(format) = format else {
+    let Some(format) = session_format(format) else {
         return Status::BadArgument.number();
     };
     match begin(alloc, format, text) {

@@ -4,9 +4,10 @@ ghost use Rattle.std.specs.Prelude.{◌≡◌};
 ghost use Rattle.pgp_c.specs.Place.{device_number, device_number_at, sixteen, pgp_place};
 
 use pgp_ids::{Epoch, Membership, OsdId, Osds, PgId};
+use std::array::from_fn;
 
 /// Stands for no device.
-const NO_DEVICE: u16 = 65535;
+pub const NO_DEVICE: u16 = 65535;
 
 /// Where an object lies. A place without a device, one behind the end of its list, and a list without a primary have 65535.
 #[repr(C)]
@@ -72,22 +73,5 @@ fn device_at(devices: &Osds, place: usize) -> u16
 pub fn sixteen(devices: &Osds) -> [u16; 16]
     ensures { result ≡ sixteen devices.now }
 {
-    [
-        device_at(devices, 0),
-        device_at(devices, 1),
-        device_at(devices, 2),
-        device_at(devices, 3),
-        device_at(devices, 4),
-        device_at(devices, 5),
-        device_at(devices, 6),
-        device_at(devices, 7),
-        device_at(devices, 8),
-        device_at(devices, 9),
-        device_at(devices, 10),
-        device_at(devices, 11),
-        device_at(devices, 12),
-        device_at(devices, 13),
-        device_at(devices, 14),
-        device_at(devices, 15),
-    ]
+    from_fn(|place| device_at(devices, place))
 }

@@ -1,21 +1,17 @@
 //! What a map incremental says of pools and groups, as C gives it.
 
-ghost use Rattle.std.specs.Prelude.{◌≡◌, slice_get};
-ghost use Rattle.pgp_c.specs.Each.{IsGiven};
-ghost use Rattle.pgp_c.specs.Pools.{are_slots, groups_of, kind_of, given_part, part_with, pg_num_of, given_place, given_parts, pool_of, pool_sizes_of, temp_of};
+ghost use Rattle.std.specs.Prelude.{◌≡◌, Some, length, slice_get, IfOk, IfErr};
+ghost use Rattle.pgp_c.specs.Each.{IsGiven, IsWhy};
+ghost use Rattle.pgp_c.specs.Pools.{are_slots, first_items, groups_of, kind_of, given_part, part_with, pg_num_of, given_place, given_parts, pool_of, pool_sizes_of, temp_of};
 
 use super::ask::group_of;
 use super::each::{OfC, each_of};
 use super::locate::pool_of;
+use super::place::NO_DEVICE;
 use super::status::Status;
 use pgp_ids::{MAX_PARTS, OsdId, Part, Parts, Place, PoolKind, PoolSizes, PoolSpec, TempList};
 use std::alloc::Global;
-
-/// Stands for no device.
-const NO_DEVICE: u16 = 65535;
-
-/// How many items an array has room for.
-const ROOM: u8 = 16;
+use std::array::from_fn;
 
 /// The greatest slot of a member.
 const LAST_SLOT: u8 = 15;
@@ -94,10 +90,7 @@ impl OfC<PgpPool> for PoolSpec {
 fn pg_num_of(number: u32) -> Result<u16, Status>
     ensures { IsGiven result (pg_num_of number) }
 {
-    if number > 65535 {
-        return Err(Status::BadArgument);
-    }
-    Ok(number as u16)
+    u16::try_from(number).map_err(|_| Status::BadArgument)
 }
 
 /// How a pool keeps its objects.
@@ -119,35 +112,25 @@ fn kind_of(alloc: Global, given: &PgpPool) -> Result<PoolKind, Status>
 fn groups_of(alloc: Global, given: &PgpPool) -> Result<Parts, Status>
     ensures { IsGiven result (groups_of given.now) }
 {
-    if given.parts_length > ROOM {
-        return Err(Status::BadArgument);
-    }
-    let parts = each_of(alloc, &given.parts[..usize::from(given.parts_length)])?;
+    let given = first_items(&given.parts, given.parts_length)?;
+    let parts = each_of(alloc, given)?;
     Ok(Parts::new(places_of(parts.as_slice())))
+}
+
+/// The first items of an array with room for 16, as many as C says.
+fn first_items<A>(items: &[A], count: u8) -> Result<&[A], Status>
+    requires { length items.now ≡ 16 }
+    ensures ok { IfOk result (λ first. first_items count items.now ≡ Some first.now) }
+    ensures err { IfErr result (λ why. IsWhy why (first_items count items.now)) }
+{
+    items.get(..usize::from(count)).ok_or(Status::BadArgument)
 }
 
 /// The parts in the first places.
 fn places_of(parts: &[Part]) -> [Option<Part>; MAX_PARTS]
     ensures { result ≡ given_parts parts.now }
 {
-    [
-        part_at(parts, 0),
-        part_at(parts, 1),
-        part_at(parts, 2),
-        part_at(parts, 3),
-        part_at(parts, 4),
-        part_at(parts, 5),
-        part_at(parts, 6),
-        part_at(parts, 7),
-        part_at(parts, 8),
-        part_at(parts, 9),
-        part_at(parts, 10),
-        part_at(parts, 11),
-        part_at(parts, 12),
-        part_at(parts, 13),
-        part_at(parts, 14),
-        part_at(parts, 15),
-    ]
+    from_fn(|place| part_at(parts, place))
 }
 
 /// The part at this place.
@@ -161,10 +144,7 @@ impl OfC<PgpPart> for Part {
     ghost of_c = { given_part };
 
     fn of_c(_alloc: Global, given: &PgpPart) -> Result<Part, Status> {
-        if given.slots_length > ROOM {
-            return Err(Status::BadArgument);
-        }
-        part_with(given.least, &given.slots[..usize::from(given.slots_length)])
+        part_with(given.least, first_items(&given.slots, given.slots_length)?)
     }
 }
 
@@ -202,10 +182,7 @@ impl OfC<PgpTemp> for TempList {
 
     fn of_c(alloc: Global, given: &PgpTemp) -> Result<TempList, Status> {
         let pg = group_of(given.pool, given.pg).ok_or(Status::BadArgument)?;
-        if given.length > ROOM {
-            return Err(Status::BadArgument);
-        }
-        let osds = each_of(alloc, &given.osds[..usize::from(given.length)])?;
+        let osds = each_of(alloc, first_items(&given.osds, given.length)?)?;
         Ok(TempList { pg, osds })
     }
 }

@@ -1,17 +1,19 @@
 //! A part of a member's log, as C gives it.
 
-ghost use Rattle.std.specs.Prelude.{◌≡◌, ◌↔◌, true, map, IsSome, IfSome, IfOk, OnErr};
+ghost use Rattle.std.specs.Prelude.{◌≡◌};
 ghost use Rattle.std.specs.List.{list_all};
 ghost use Rattle.std.specs.Str.{is_utf8};
-ghost use Rattle.pgp_c.specs.Report.{IsReport, SubmitsReport, change_of, is_log_entry, given_name, told_log_entry, told_report};
+ghost use Rattle.pgp_c.specs.Report.{IsReportMade, SubmitsReport, given_log_entry, given_name, is_log_entry};
 
 use super::ask::group_of;
+use super::each::{OfC, each_of};
 use super::info::{member_of, version_of};
+use super::locate::name_of;
 use super::status::Status;
 use super::submit::tell;
 use pgp_core::Session;
-use pgp_ids::{Change, Entry, Epoch, LogEntry, ObjectName, Report, Seq};
-use std::alloc::{AllocError, Global};
+use pgp_ids::{Change, Entry, Epoch, LogEntry, Report};
+use std::alloc::Global;
 use std::str::from_utf8;
 
 /// How many log entries a report has at most.
@@ -56,9 +58,8 @@ pub fn submit_entries(
     ensures { SubmitsReport session.old session.new report.now log.now result }
 {
     match report_of(alloc, report, log) {
-        Ok(Some(report)) => tell(session, Entry::Entries(report)),
-        Ok(None) => Status::BadArgument.number(),
-        Err(_) => Status::NoMemory.number(),
+        Ok(report) => tell(session, Entry::Entries(report)),
+        Err(status) => status.number(),
     }
 }
 
@@ -67,27 +68,20 @@ fn report_of(
     alloc: Global,
     report: &PgpReport,
     log: &[PgpLogEntry],
-) -> Result<Option<Report>, AllocError>
-    ensures in_range { IfOk result (λ made. IsSome made ↔ IsReport report.now log.now) }
-    ensures value { IfOk result (λ made. IfSome made (λ it. it ≡ told_report report.now log.now)) }
-    ensures memory { OnErr result (IsReport report.now log.now) }
+) -> Result<Report, Status>
+    ensures { IsReportMade result report.now log.now }
 {
-    let Some(pg) = group_of(report.pool, report.pg) else {
-        return Ok(None);
-    };
-    let Some(member) = member_of(report.osd, report.slot) else {
-        return Ok(None);
-    };
+    let pg = group_of(report.pool, report.pg).ok_or(Status::BadArgument)?;
+    let member = member_of(report.osd, report.slot).ok_or(Status::BadArgument)?;
     if log.is_empty() || log.len() > MAX_LOG_ENTRIES || !are_log_entries(log) {
-        return Ok(None);
+        return Err(Status::BadArgument);
     }
-    let log = log_of(alloc, log)?;
-    Ok(Some(Report {
+    Ok(Report {
         pg,
         member,
         stamp: Epoch::new(report.stamp),
-        log,
-    }))
+        log: each_of(alloc, log)?,
+    })
 }
 
 /// Each has the numbers and the name of a log entry.
@@ -121,52 +115,19 @@ fn name_bytes(entry: &PgpLogEntry) -> &[u8]
     &entry.name[..usize::from(entry.name_length)]
 }
 
-/// The log of these entries.
-fn log_of(alloc: Global, log: &[PgpLogEntry]) -> Result<Seq<LogEntry>, AllocError>
-    requires { list_all is_log_entry log.now ≡ true }
-    ensures { IfOk result (λ made. made ≡ map told_log_entry log.now) }
-{
-    let mut made = Seq::new(alloc);
-    for entry in log {
-        made.push(log_entry_of(alloc, entry)?)?;
-    }
-    Ok(made)
-}
+impl OfC<PgpLogEntry> for LogEntry {
+    ghost of_c = { given_log_entry };
 
-/// The log entry with these numbers and this name.
-fn log_entry_of(alloc: Global, entry: &PgpLogEntry) -> Result<LogEntry, AllocError>
-    requires { is_log_entry entry.now ≡ true }
-    ensures { IfOk result (λ it. it ≡ told_log_entry entry.now) }
-{
-    let object = name_of(alloc, entry)?;
-    Ok(LogEntry {
-        version: version_of(entry.epoch, entry.number),
-        change: change_of(entry.deletes),
-        object,
-    })
-}
-
-/// What the write did to the object.
-fn change_of(deletes: u8) -> Change
-    ensures { result ≡ change_of deletes }
-{
-    if deletes == 1 {
-        Change::Delete
-    } else {
-        Change::Modify
-    }
-}
-
-/// The name of the object.
-fn name_of(alloc: Global, entry: &PgpLogEntry) -> Result<ObjectName, AllocError>
-    requires { is_log_entry entry.now ≡ true }
-    ensures { IfOk result (λ name. name ≡ given_name entry.now) }
-{
-    match from_utf8(name_bytes(entry)) {
-        Ok(text) => match ObjectName::new(alloc, text)? {
-            Some(name) => Ok(name),
-            None => unreachable!(),
-        },
-        Err(_) => unreachable!(),
+    fn of_c(alloc: Global, given: &PgpLogEntry) -> Result<LogEntry, Status> {
+        let change = match given.deletes {
+            0 => Change::Modify,
+            1 => Change::Delete,
+            _ => return Err(Status::BadArgument),
+        };
+        Ok(LogEntry {
+            version: version_of(given.epoch, given.number),
+            change,
+            object: name_of(alloc, name_bytes(given))?,
+        })
     }
 }

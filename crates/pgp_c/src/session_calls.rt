@@ -1,21 +1,18 @@
 //! Calls that begin and end a session, tell it a line, and do its work ahead.
 
-ghost use Rattle.std.specs.Prelude.{◌≡◌, Some};
+ghost use Rattle.std.specs.Prelude.{◌≡◌, Some, IfOk};
 ghost use Rattle.pgp_lines.specs.declared.command.format.Format.TheVariants.{Two};
-ghost use Rattle.pgp_c.specs.Copy.{OpensCopy};
+ghost use Rattle.pgp_c.specs.Copy.{IsCopy, OpensCopy};
 ghost use Rattle.pgp_c.specs.Exports.{Opens, Closes, Tells, Repeats, session_format};
-ghost use Rattle.pgp_c.specs.OpenLines.{OpensLines};
 ghost use Rattle.pgp_c.specs.Work.{Works};
 
 use super::VERSION;
-use super::copy::open_copy;
-use super::open::{open, session_format};
-use super::open_lines::open_lines;
-use super::room::put_out;
+use super::each::put_out;
 use super::session::PgpSession;
 use super::status::Status;
+use pgp_core::Session;
 use pgp_lines::Format;
-use std::alloc::Global;
+use std::alloc::{AllocError, Global};
 
 /// Opens a session with an empty log, which reads lines of versions 1 and 2.
 #[unsafe(no_mangle)]
@@ -33,20 +30,34 @@ pub extern "C" fn pgp_open_format(alloc: Global, session: &mut PgpSession, forma
     open(alloc, session, session_format(format))
 }
 
-/// Opens a session with the log that the lines of a text make, up to the version of this number, and puts into `refused` how many of
-/// them are refused.
-#[unsafe(no_mangle)]
-pub extern "C" fn pgp_open_lines(
-    alloc: Global,
-    session: &mut PgpSession,
-    format: u32,
-    text: &[u8],
-    refused: &mut usize,
-) -> u32
-    ensures { OpensLines (session_format format) text.now session.old.held.session session.new.held.session refused.new result }
+/// The version of this number, where a session may read lines up to it.
+pub fn session_format(number: u32) -> Option<Format>
+    ensures { result ≡ session_format number }
 {
-    *refused = 0;
-    open_lines(alloc, session, session_format(format), text, refused)
+    match number {
+        2 => Some(Format::Two),
+        3 => Some(Format::Three),
+        _ => None,
+    }
+}
+
+/// Opens a session with an empty log, which reads lines up to this version, where there is one.
+fn open(alloc: Global, session: &mut PgpSession, format: Option<Format>) -> u32
+    ensures { Opens format session.old.held.session session.new.held.session result }
+{
+    if session.is_open {
+        return Status::AlreadyOpen.number();
+    }
+    let Some(format) = format else {
+        return Status::BadArgument.number();
+    };
+    match Box::new(alloc, Session::new(alloc, format)) {
+        Ok(opened) => {
+            session.put(opened);
+            Status::Done.number()
+        }
+        Err(_) => Status::NoMemory.number(),
+    }
 }
 
 /// Opens `copy` with the log of `session`. They share the entries, which nobody changes.
@@ -58,7 +69,30 @@ pub extern "C" fn pgp_open_copy(
 ) -> u32
     ensures { OpensCopy copy.old.held.session copy.new.held.session session.old.held.session session.new.held.session result }
 {
-    open_copy(alloc, copy, session)
+    if copy.is_open {
+        return Status::AlreadyOpen.number();
+    }
+    let Some(opened) = session.take(alloc) else {
+        return Status::NotOpen.number();
+    };
+    let made = copy_of(alloc, &opened);
+    session.put(opened);
+    match made {
+        Ok(made) => {
+            copy.put(made);
+            Status::Done.number()
+        }
+        Err(_) => Status::NoMemory.number(),
+    }
+}
+
+/// A session with the log of this one.
+fn copy_of(alloc: Global, session: &Session) -> Result<Box<Session>, AllocError>
+    ensures { IfOk result (λ copy. IsCopy session.now copy.value) }
+{
+    let mut copy = Session::new(alloc, session.format());
+    copy.go_on_with(session.entries())?;
+    Ok(Box::new(alloc, copy)?)
 }
 
 /// Ends a session, and frees its memory.

@@ -30,13 +30,13 @@ use Rattle.core.proofs.alloc.Calls.{token, Goes-blank}
 use Rattle.std_alloc.specs.Box.Ownership.{box_owns}
 use Rattle.std_alloc.proofs.BoxSteps.Form.{Bx, D, R, P, B, args, box_ty, word, box_typed}
 use Rattle.std_alloc.proofs.BoxSteps.Steps.{box_out, box_in}
-use Rattle.pgp_c.specs.contracts.held_session.parts.Parts as parts
+use Rattle.pgp_c.specs.contracts.held_session.Parts as parts
 use Rattle.std_alloc.specs.contracts.boxed.Box.from_raw as Fr
 use Rattle.std_alloc.proofs.boxed.Box.from_raw.Met as raw_met
-use Rattle.pgp_c.specs.contracts.held_session.parts.Parts.into_box as F
-use Rattle.pgp_c.specs.contracts.held_session.parts.Parts.into_box.Key.{name as #self}
-use Rattle.pgp_c.proofs.held_session.parts.Parts.into_box.Statement as stated
-use Rattle.pgp_c.proofs.held_session.parts.Parts.into_box.Code as code
+use Rattle.pgp_c.specs.contracts.held_session.Parts.into_box as F
+use Rattle.pgp_c.specs.contracts.held_session.Parts.into_box.Key.{name as #self}
+use Rattle.pgp_c.proofs.held_session.Parts.into_box.Statement as stated
+use Rattle.pgp_c.proofs.held_session.Parts.into_box.Code as code
 
 abbrev rest : Body
 rest = seq (assign (place 0 []) (rv_opd (copy (place 4 [])))) return

@@ -33,13 +33,13 @@ use Rattle.core.proofs.alloc.Calls.{token, handle_tells, Goes-blank}
 use Rattle.std_alloc.specs.Box.Ownership.{box_owns}
 use Rattle.std_alloc.proofs.BoxSteps.Form.{Bx, D, τ, R, P, B, word, box_typed}
 use Rattle.std_alloc.proofs.BoxSteps.Steps.{box_out, box_in}
-use Rattle.pgp_c.specs.contracts.held_session.parts.Parts as parts
+use Rattle.pgp_c.specs.contracts.held_session.Parts as parts
 use Rattle.std_alloc.specs.contracts.boxed.Box.into_raw_with_allocator as Ra
 use Rattle.std_alloc.proofs.boxed.Box.into_raw_with_allocator.Met as raw_met
-use Rattle.pgp_c.specs.contracts.held_session.parts.Parts.of as F
-use Rattle.pgp_c.specs.contracts.held_session.parts.Parts.of.Key.{name as #self}
-use Rattle.pgp_c.proofs.held_session.parts.Parts.of.Statement as stated
-use Rattle.pgp_c.proofs.held_session.parts.Parts.of.Code as code
+use Rattle.pgp_c.specs.contracts.held_session.Parts.of as F
+use Rattle.pgp_c.specs.contracts.held_session.Parts.of.Key.{name as #self}
+use Rattle.pgp_c.proofs.held_session.Parts.of.Statement as stated
+use Rattle.pgp_c.proofs.held_session.Parts.of.Code as code
 
 pub of_spec : {M : Type 1} → stated.statement M
 of_spec 𝓤 𝓛 𝓜 𝓡 wired X Z LX LZ g d dd dx allocator md glue =
