@@ -11,7 +11,7 @@ use super::each::{AsC, put_each};
 use super::place::{device_number, sixteen};
 use super::session::PgpSession;
 use super::status::Status;
-use pgp_ids::{Member, OsdId, Past, PgId, PeerMissing, PeerState, View};
+use pgp_ids::{Member, OsdId, Past, PeerMissing, PeerState, PgId, View};
 use std::alloc::Global;
 
 /// A member of a group.

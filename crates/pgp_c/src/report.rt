@@ -64,11 +64,7 @@ pub fn submit_entries(
 }
 
 /// The part of a log with these numbers and names, if each is in its range. Only then it may be out of memory.
-fn report_of(
-    alloc: Global,
-    report: &PgpReport,
-    log: &[PgpLogEntry],
-) -> Result<Report, Status>
+fn report_of(alloc: Global, report: &PgpReport, log: &[PgpLogEntry]) -> Result<Report, Status>
     ensures { IsReportMade result report.now log.now }
 {
     let pg = group_of(report.pool, report.pg).ok_or(Status::BadArgument)?;

@@ -22,7 +22,7 @@ returns c =
     let ok = c.in_ok-name_of.ensures.ok in
     let name : IsName (given_name it) = subst IsName c.name_bytes.ensures ok.1 in
     let object : c.in_ok-name_of.field-0 ≡ given_name it = ok.0 ∙ c.name_bytes.ensures in
-    let change : c.match-given.change ≡ change_of it.deletes = elim c.match-given.branch [ | in-0 w ↦ search rules | in-1 w ↦ search rules ] in
-    let few : it.deletes ≤ 1 = elim c.match-given.branch [ | in-0 w ↦ omega arith | in-1 w ↦ omega arith ] in
+    let change : c.match-given.change ≡ change_of it.deletes = elim c.match-given.branch [ in-0 w ↦ search rules | in-1 w ↦ search rules ] in
+    let few : it.deletes ≤ 1 = elim c.match-given.branch [ in-0 w ↦ omega arith | in-1 w ↦ omega arith ] in
     given-named it (search rules) few name
     ∙ ap Some (λ i. record { version = record { epoch = sym c.version_of.ensures.0 i; v = sym c.version_of.ensures.1 i }; change = sym change i; object = sym object i })
