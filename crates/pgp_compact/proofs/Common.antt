@@ -25,11 +25,11 @@ pub use Rattle.pgp_compact.specs.Standing.{HasReached, opening_in, standing_at}
 pub use Rattle.pgp_compact.specs.Whole.{HasReadFront}
 pub use Rattle.pgp_compact.specs.declared.course.Course.{Course}
 pub use Rattle.pgp_compact.specs.declared.courses.Courses.{Courses}
-pub use Rattle.pgp_compact.specs.declared.keys.Number.{Number}
-pub use Rattle.pgp_compact.specs.declared.keys.Opening.{Opening}
+pub use Rattle.pgp_compact.specs.declared.later.Number.{Number}
+pub use Rattle.pgp_compact.specs.declared.later.Opening.{Opening}
 pub use Rattle.pgp_compact.specs.declared.group_place.GroupPlace.{GroupPlace}
-pub use Rattle.pgp_compact.specs.declared.span.Span.{Span}
-pub use Rattle.pgp_compact.specs.declared.standing.Standing.{Standing}
+pub use Rattle.pgp_compact.specs.declared.course.Span.{Span}
+pub use Rattle.pgp_compact.specs.declared.course.Standing.{Standing}
 pub use Rattle.pgp_compact.specs.declared.whole.Whole.{Whole}
 pub use Rattle.pgp_group.proofs.FirstLemmas.{along}
 pub use Rattle.pgp_group.proofs.GroupLemmas.{infos-new, infos-other, infos-same, on_ok, reports-other, reports-same}

@@ -23,7 +23,7 @@ use Rattle.pgp_group.specs.GroupLog.{GroupLog, group_in, infos}
 use Rattle.pgp_group.specs.Heard.{is_counted, les}
 use Rattle.pgp_reasons.specs.Reported.{infos_in}
 use Rattle.pgp_compact.specs.Needed.{are_needed, needed_of}
-use Rattle.pgp_compact.specs.declared.span.Span.{Span}
+use Rattle.pgp_compact.specs.declared.course.Span.{Span}
 
 -- ---- infos
 

@@ -21,7 +21,7 @@ use Rattle.pgp_log.specs.RawSets.{IsRawSet}
 use Rattle.pgp_compact.specs.Compacted.{past_spans}
 use Rattle.pgp_compact.specs.declared.course.Course.{Course}
 use Rattle.pgp_compact.specs.declared.group_place.GroupPlace.{GroupPlace}
-use Rattle.pgp_compact.specs.declared.span.Span.{Span}
+use Rattle.pgp_compact.specs.declared.course.Span.{Span}
 
 -- ---- where the group lies
 

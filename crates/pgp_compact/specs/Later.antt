@@ -12,9 +12,9 @@ use Rattle.pgp_group.specs.Entries.{infos_of, reports_of}
 use Rattle.pgp_group.specs.GroupLog.{group_in}
 use Rattle.pgp_compact.specs.Greatest.{IsGreatestOf}
 use Rattle.pgp_compact.specs.Standing.{opening_in}
-use Rattle.pgp_compact.specs.declared.keys.Sender.{Sender}
-use Rattle.pgp_compact.specs.declared.keys.Opening.{Opening}
-use Rattle.pgp_compact.specs.declared.keys.Number.{Number}
+use Rattle.pgp_compact.specs.declared.later.Sender.{Sender}
+use Rattle.pgp_compact.specs.declared.later.Opening.{Opening}
+use Rattle.pgp_compact.specs.declared.later.Number.{Number}
 use Rattle.pgp_compact.specs.declared.later.Later.{Later}
 
 -- ---- the keys

@@ -5,7 +5,7 @@ use Rattle.pgp_interval.specs.Runs.{current_first}
 use Rattle.pgp_group.specs.GroupLog.{GroupLog}
 use Rattle.pgp_group.specs.Heard.{les}
 use Rattle.pgp_compact.specs.Compacted.{clean_spans, is_in_span}
-use Rattle.pgp_compact.specs.declared.standing.Standing.{Standing}
+use Rattle.pgp_compact.specs.declared.course.Standing.{Standing}
 
 -- the first epoch of the group's interval that holds this epoch, where clean epochs of it can matter
 abbrev pub opening_in : GroupLog → ℕ → Option ℕ

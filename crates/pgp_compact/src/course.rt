@@ -1,6 +1,6 @@
 //! The intervals of a group.
 
-ghost use Rattle.std.specs.Prelude.{◌≡◌, ◌≤◌, ◌&&◌, ◌||◌, [], List, not, Some, None, true, false, find, option_map, OnOk};
+ghost use Rattle.std.specs.Prelude.{◌≡◌, ◌≤◌, ◌&&◌, ◌||◌, [], List, not, Some, true, false, find, option_map, OnOk};
 ghost use Rattle.pgp_code.specs.AnyCode.{enough_of, is_by_place};
 ghost use Rattle.pgp_ids.specs.declared.entry.Entry.{Entry as AnyEntry};
 ghost use Rattle.pgp_ids.specs.declared.incremental.Incremental.{Incremental as AnyIncremental};
@@ -12,7 +12,6 @@ ghost use Rattle.pgp_map.specs.MapFault.{then_with};
 ghost use Rattle.pgp_group.specs.Entries.{incs_of};
 ghost use Rattle.pgp_group.specs.GroupLog.{GroupLog, group_in};
 ghost use Rattle.pgp_group.specs.Heard.{les};
-ghost use Rattle.pgp_log.specs.Locate.{IsCheckedMap};
 ghost use Rattle.pgp_log.specs.Log.{is_legal};
 ghost use Rattle.pgp_log.specs.MapBefore.{IsMapBefore};
 ghost use Rattle.pgp_compact.specs.Compacted.{is_in_span, past_spans, wants_clean};
@@ -22,14 +21,40 @@ ghost use Rattle.pgp_compact.specs.Standing.{HasReached, opening_in, standing_at
 ghost use Rattle.pgp_compact.specs.declared.group_place.GroupPlace.{GroupPlace as AnyPlace};
 
 use super::group_place::GroupPlace;
-use super::span::Span;
-use super::standing::Standing;
 use pgp_code::{AnyCode, Recoverable};
 use pgp_ids::{Epoch, Incremental, Membership, PgId, PrimaryFacts};
 use pgp_interval::acting_slots;
 use pgp_log::MapBefore;
 use pgp_map::OsdMap;
 use std::alloc::{AllocError, Global};
+
+/// The epochs of an interval of a group, the first and the last of them.
+#[derive(Clone, Copy)]
+pub(crate) struct Span {
+    pub(crate) first: Epoch,
+    pub(crate) last: Epoch,
+}
+
+impl Span {
+    /// The epoch is one of these.
+    pub(crate) fn holds(&self, epoch: Epoch) -> bool
+        ensures { result ≡ is_in_span epoch self.now }
+    {
+        self.first <= epoch && epoch <= self.last
+    }
+}
+
+/// What decides, beside the reports that come later, which reports of a group are needed.
+#[derive(Clone, Copy)]
+pub(crate) struct Standing {
+    /// The first epoch of the current interval.
+    pub(crate) first: Epoch,
+    /// The last epoch in which the group is known to have begun to serve.
+    pub(crate) les: Epoch,
+    /// The first epoch of the interval in which the group was clean, by a report; `None` if the report names no epoch of the
+    /// group's life.
+    pub(crate) opening: Option<Epoch>,
+}
 
 /// A group as one map follows another: where it lies, when its current interval began, and in which of its past intervals clean
 /// epochs can matter.
@@ -77,7 +102,10 @@ impl Course {
         ensures les { self.new.les ≡ self.old.les }
     {
         let Some(place) = &self.place else {
-            self.begin(after);
+            if after.has_group(&self.pg) {
+                self.first = after.epoch();
+                self.place = Some(GroupPlace::at(after, &self.pg));
+            }
             return Ok(());
         };
         if !place.may_leave(&self.pg, inc) {
@@ -136,20 +164,6 @@ impl Course {
             is_recorded(facts, self.first),
             self.les < after.epoch(),
         )
-    }
-
-    /// The group's life begins, if this map has the group. The map before didn't have it.
-    fn begin(&mut self, after: &OsdMap)
-        requires { IsCheckedMap after.now }
-        ensures ok { (incs : List AnyIncremental) (inc : AnyIncremental) → IsNext incs inc after.now → self.old.place ≡ None
-            → IsCourse incs self.old → IsCourse (then_with incs inc) self.new }
-        ensures pg { self.new.pg ≡ self.old.pg }
-        ensures les { self.new.les ≡ self.old.les }
-    {
-        if after.has_group(&self.pg) {
-            self.first = after.epoch();
-            self.place = Some(GroupPlace::at(after, &self.pg));
-        }
     }
 
     /// What decides which reports of the group are needed, where an info says that it was clean in the epoch `clean`; `None` if the

@@ -1,12 +1,10 @@
 //! The groups that have reports.
 
-ghost use Rattle.std.specs.Prelude.{◌≡◌, ◌++◌, [], ◌∷◌, List, map, IfOk, OnOk, IfSome, IfNone};
+ghost use Rattle.std.specs.Prelude.{◌++◌, [], ◌∷◌, List, map, IfOk, OnOk, IfSome, IfNone};
 ghost use Rattle.std.specs.Arc.{arc_value};
-ghost use Rattle.std.specs.HashMap as hash;
 ghost use Rattle.pgp_ids.specs.declared.entry.Entry.{Entry as AnyEntry};
 ghost use Rattle.pgp_ids.specs.declared.incremental.Incremental.{Incremental as AnyIncremental};
 ghost use Rattle.pgp_map.specs.MapFault.{then_with};
-ghost use Rattle.pgp_map.specs.Pools.{is_same_group};
 ghost use Rattle.pgp_group.specs.GroupOf.{IsSilent};
 ghost use Rattle.pgp_log.specs.MapBefore.{IsMapBefore};
 ghost use Rattle.pgp_compact.specs.Course.{IsNext};
@@ -52,8 +50,7 @@ impl Courses {
         match entry {
             Entry::Info(info) => self.note_report(alloc, info.pg, info.history_les),
             Entry::Entries(report) => self.note_report(alloc, report.pg, Epoch::new(0)),
-            Entry::Inc(_) => Ok(()),
-            Entry::Close => Ok(()),
+            Entry::Inc(_) | Entry::Close => Ok(()),
         }
     }
 
@@ -63,7 +60,7 @@ impl Courses {
         ensures { OnOk result ((entries : List AnyEntry) (new : AnyEntry) → IsReportOf pg les new → AreCourses [] entries self.old
             → AreCourses [] (entries ++ new ∷ []) self.new) }
     {
-        match self.find(&pg) {
+        match self.places.get(&pg).copied() {
             Some(place) => {
                 let course = &mut self.all[place];
                 // The group is known to have begun to serve in this epoch.
@@ -104,15 +101,8 @@ impl Courses {
         ensures none { IfNone result ((incs : List AnyIncremental) (entries : List AnyEntry) → AreCourses incs entries self.now
             → IsSilent entries pg.now) }
     {
-        let place = self.find(pg)?;
+        let place = self.places.get(pg).copied()?;
         self.all.get(place)
-    }
-
-    /// At which place the group stands.
-    fn find(&self, pg: &PgId) -> Option<usize>
-        ensures { result ≡ hash.get is_same_group self.now.places pg.now }
-    {
-        self.places.get(pg).copied()
     }
 }
 

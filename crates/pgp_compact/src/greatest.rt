@@ -8,14 +8,9 @@ use std::collections::HashMap;
 use std::hash::Hash;
 
 /// The greatest number that was noted for each key.
+#[derive(Drop)]
 pub(crate) struct Greatest<K: Eq + Hash> {
     table: HashMap<K, u32>,
-}
-
-impl<K: Eq + Hash + Drop> Drop for Greatest<K> {
-    fn drop(self) {
-        let Greatest { table: _ } = self;
-    }
 }
 
 impl<K: Eq + Hash + Drop> Greatest<K> {

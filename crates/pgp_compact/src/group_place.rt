@@ -63,15 +63,9 @@ impl GroupPlace {
     pub(crate) fn may_leave(&self, pg: &PgId, inc: &Incremental) -> bool
         ensures { result ≡ may_leave self.now pg.now inc.now }
     {
-        moves(inc, pg.pool) || changes_temp(inc, pg) || self.lies_on_turned(inc)
-    }
-
-    /// Whether the group may lie on a device that the incremental boots, takes down or destroys.
-    fn lies_on_turned(&self, inc: &Incremental) -> bool
-        ensures { result ≡ (list_any (has_device self.now) inc.now.up || list_any (has_device self.now) inc.now.down
-            || list_any (has_device self.now) inc.now.gone) }
-    {
-        self.lies_on_any(inc.up.as_slice())
+        moves(inc, pg.pool)
+            || changes_temp(inc, pg)
+            || self.lies_on_any(inc.up.as_slice())
             || self.lies_on_any(inc.down.as_slice())
             || self.lies_on_any(inc.gone.as_slice())
     }

@@ -12,35 +12,47 @@ ghost use Rattle.pgp_compact.specs.Compacted.{reports_in, may_be_heard, tells_la
 ghost use Rattle.pgp_compact.specs.Later.{AreLastCleans, IsLater, sender_of, opening_at, write_number};
 ghost use Rattle.pgp_compact.specs.Standing.{standing_at, opening_in};
 
+use super::course::Standing;
 use super::greatest::Greatest;
-use super::keys::{Number, Opening, Sender};
-use super::standing::Standing;
 use pgp_group::is_counted;
-use pgp_ids::{Epoch, Info, LogEntry, PgId, Report};
+use pgp_ids::{Epoch, Info, LogEntry, OsdId, PgId, Report};
 use pgp_map::OsdMap;
 use std::alloc::{AllocError, Global};
+
+/// A member of a group.
+#[derive(Clone, Copy, PartialEq, Eq, Hash)]
+pub(crate) struct Sender {
+    pub(crate) pg: PgId,
+    pub(crate) osd: OsdId,
+    pub(crate) slot: u8,
+}
+
+/// An interval of a group, by its first epoch.
+#[derive(Clone, Copy, PartialEq, Eq, Hash)]
+pub(crate) struct Opening {
+    pub(crate) pg: PgId,
+    pub(crate) first: u32,
+}
+
+/// The log entries of one number of a member of a group.
+#[derive(Clone, Copy, PartialEq, Eq, Hash)]
+pub(crate) struct Number {
+    pub(crate) pg: PgId,
+    pub(crate) osd: OsdId,
+    pub(crate) slot: u8,
+    pub(crate) v: u32,
+}
 
 /// What was sent later: of each member the greatest stamp of its infos, of each group the greatest history_les, of each interval
 /// the last clean epoch, where one can matter, and of each number of each member the greatest stamp of a report with an entry of that
 /// number. Beside it stand the last clean epochs by the whole log.
+#[derive(Drop)]
 pub(crate) struct Later {
     senders: Greatest<Sender>,
     starts: Greatest<PgId>,
     cleans: Greatest<Opening>,
     all_cleans: Greatest<Opening>,
     numbers: Greatest<Number>,
-}
-
-impl Drop for Later {
-    fn drop(self) {
-        let Later {
-            senders: _,
-            starts: _,
-            cleans: _,
-            all_cleans: _,
-            numbers: _,
-        } = self;
-    }
 }
 
 impl Later {

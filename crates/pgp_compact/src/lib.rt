@@ -9,11 +9,8 @@ mod course;
 mod courses;
 mod greatest;
 mod group_place;
-mod keys;
 mod later;
 pub mod laws;
-mod span;
-mod standing;
 mod walk;
 mod whole;
 

@@ -9,17 +9,15 @@ ghost use Rattle.pgp_map.specs.Map.{epoch};
 ghost use Rattle.pgp_group.specs.Entries.{incs_of};
 ghost use Rattle.pgp_group.specs.GroupLog.{group_in};
 ghost use Rattle.pgp_log.specs.Log.{is_legal};
-ghost use Rattle.pgp_compact.specs.Compacted.{is_needed};
 ghost use Rattle.pgp_compact.specs.Courses.{HasReport};
-ghost use Rattle.pgp_compact.specs.Later.{AreLastCleans, IsLater};
+ghost use Rattle.pgp_compact.specs.Later.{AreLastCleans};
 ghost use Rattle.pgp_compact.specs.Standing.{standing_at};
-ghost use Rattle.pgp_compact.specs.Whole.{IsReadWhole, HasReadFront, CanRead};
+ghost use Rattle.pgp_compact.specs.Whole.{CanRead, HasReadFront, IsJudged, IsReadWhole};
 
+use super::course::Standing;
 use super::courses::Courses;
 use super::greatest::Greatest;
-use super::keys::Opening;
-use super::later::{Later, note_clean};
-use super::standing::Standing;
+use super::later::{Later, Opening, note_clean};
 use pgp_ids::{Entry, Epoch, Info, PgId, Report};
 use pgp_log::MapBefore;
 use pgp_map::OsdMap;
@@ -27,15 +25,10 @@ use std::alloc::{AllocError, Global};
 use std::sync::Arc;
 
 /// The last map of a whole log, and the groups of which it has reports.
+#[derive(Drop)]
 pub(crate) struct Whole {
     map: OsdMap,
     courses: Courses,
-}
-
-impl Drop for Whole {
-    fn drop(self) {
-        let Whole { map: _, courses: _ } = self;
-    }
 }
 
 impl Whole {
@@ -60,16 +53,12 @@ impl Whole {
         ensures { OnOk result ((log front : List AnyEntry) → is_legal (front ++ entry.now ∷ []) ≡ true → HasReadFront log front self.old
             → HasReadFront log (front ++ entry.now ∷ []) self.new) }
     {
-        match entry {
-            Entry::Inc(inc) => {
-                let before = MapBefore::of(alloc, &self.map, inc)?;
-                self.map.apply(inc)?;
-                self.courses.absorb(&before, &self.map, inc)
-            }
-            Entry::Info(_) => Ok(()),
-            Entry::Entries(_) => Ok(()),
-            Entry::Close => Ok(()),
-        }
+        let Entry::Inc(inc) = entry else {
+            return Ok(());
+        };
+        let before = MapBefore::of(alloc, &self.map, inc)?;
+        self.map.apply(inc)?;
+        self.courses.absorb(&before, &self.map, inc)
     }
 
     /// The last clean epoch in each interval of each group in which clean epochs can matter, by the infos of the log. It goes over the
@@ -107,24 +96,17 @@ impl Whole {
     /// Whether the entry of the log stays, where `later` has taken note of those after it. `later` then takes note
     /// of this entry too.
     pub(crate) fn needs(&self, later: &mut Later, entry: &Entry) -> Result<bool, AllocError>
-        ensures needed { IfOk result (λ needed. (log done : List AnyEntry) → IsReadWhole log self.now → IsLater log done later.old
-            → Contains log entry.now → needed ≡ is_needed log done entry.now) }
-        ensures noted { IfOk result (λ needed. (log done : List AnyEntry) → IsReadWhole log self.now → IsLater log done later.old
-            → Contains log entry.now → IsLater log (entry.now ∷ done) later.new) }
+        ensures { IfOk result (IsJudged self.now later.old later.new entry.now) }
     {
         match entry {
-            Entry::Inc(_) => Ok(true),
             Entry::Info(info) => self.needs_info(later, info),
             Entry::Entries(report) => self.needs_report(later, report),
-            Entry::Close => Ok(true),
+            Entry::Inc(_) | Entry::Close => Ok(true),
         }
     }
 
     fn needs_info(&self, later: &mut Later, info: &Info) -> Result<bool, AllocError>
-        ensures needed { IfOk result (λ needed. (log done : List AnyEntry) → IsReadWhole log self.now → IsLater log done later.old
-            → Contains log (entry.Info info.now) → needed ≡ is_needed log done (entry.Info info.now)) }
-        ensures noted { IfOk result (λ needed. (log done : List AnyEntry) → IsReadWhole log self.now → IsLater log done later.old
-            → Contains log (entry.Info info.now) → IsLater log (entry.Info info.now ∷ done) later.new) }
+        ensures { IfOk result (IsJudged self.now later.old later.new (entry.Info info.now)) }
     {
         match self.standing(&info.pg, info.last_epoch_clean) {
             Some(standing) => {
@@ -140,10 +122,7 @@ impl Whole {
     }
 
     fn needs_report(&self, later: &mut Later, report: &Report) -> Result<bool, AllocError>
-        ensures needed { IfOk result (λ needed. (log done : List AnyEntry) → IsReadWhole log self.now → IsLater log done later.old
-            → Contains log (entry.Entries report.now) → needed ≡ is_needed log done (entry.Entries report.now)) }
-        ensures noted { IfOk result (λ needed. (log done : List AnyEntry) → IsReadWhole log self.now → IsLater log done later.old
-            → IsLater log (entry.Entries report.now ∷ done) later.new) }
+        ensures { IfOk result (IsJudged self.now later.old later.new (entry.Entries report.now)) }
     {
         match self.standing(&report.pg, Epoch::new(0)) {
             Some(standing) => {

@@ -19,9 +19,8 @@ loop-step-preserved c =
     let place : length xs - 1 - step < length xs = omega (arith, c.loop-step-test.true) in
     let there : Contains log c.deref.result.now =
     subst (Contains log) (sym c.deref.ensures) (contains-map arc_value xs item (length xs - 1 - step, place, sym c.index-entries-entries.is)) in
-    let noted = c.in_ok-needs.ensures.noted log rest c.in_ok-whole.ensures c.loop-step.invariant.later there in
-    let needed = c.in_ok-needs.ensures.needed log rest c.in_ok-whole.ensures c.loop-step.invariant.later there in
-    grind (arith, one-earlier xs step item c.loop-step-test.true c.index-entries-entries.is, noted, needed, reverse-append)
+    let judged = c.in_ok-needs.ensures log rest c.in_ok-whole.ensures c.loop-step.invariant.later there in
+    grind (arith, one-earlier xs step item c.loop-step-test.true c.index-entries-entries.is, judged.0, judged.1, reverse-append)
 
 pub returns : goal.returns
 returns c = grind (arith, c.loop-step.invariant.choices)

@@ -1,6 +1,17 @@
-use Rattle.pgp_compact.proofs.Common.{GroupPlace, arith, checked-has_group, has_group-grows, on_ok, refl, sym, ◌∙◌}
-use Rattle.pgp_compact.proofs.CoursesLemmas.{course-unmoved, fine, stayed, under-way, unmoved}
+use Rattle.pgp_compact.proofs.Common.{GroupPlace, arith, checked-has_group, has_group, has_group-grows, on_ok, refl, sym, then_with, true, ◌∙◌, ◌≡◌}
+use Rattle.pgp_compact.proofs.CoursesLemmas.{begins, course-unmoved, fine, stayed, under-way, unmoved}
 use Rattle.pgp_compact.proofs.course.Course.absorb.Goals as goal
+
+pub at-requires : goal.at-requires
+at-requires c = grind (arith, checked-has_group, c.requires.next, c.has_group.ensures)
+
+pub returns-then-has_group-clause-ok : goal.returns-then-has_group-clause-ok
+returns-then-has_group-clause-ok c = λ incs next before is.
+    let later = then_with incs c.args.inc.now in
+    let now = c.args.self.now in
+    let there : has_group later now.pg ≡ true = sym (c.has_group.ensures later next.after_is) ∙ c.if-has_group.true in
+    let way = begins incs c.args.inc.now c.args.after.now next now.pg now.les c.at.result (is.absent c.in_default.is) there (c.at.ensures later next.after_is) in
+    under-way later _ c.at.result refl (grind (arith, way, is.unbegun c.in_default.is, c.epoch-self.ensures later next.after_is))
 
 pub returns-then-not-may_leave-clause-ok : goal.returns-then-not-may_leave-clause-ok
 returns-then-not-may_leave-clause-ok c = λ incs next before is.

@@ -11,5 +11,5 @@ returns-in-Entries c = grind (arith, report-of-entries, on_ok)
 pub returns-in-Inc : goal.returns-in-Inc
 returns-in-Inc c = grind (arith, noted-nothing)
 
-pub returns-in-Close : goal.returns-in-Close
-returns-in-Close c = grind (arith, noted-nothing)
+pub returns-in-Inc-2 : goal.returns-in-Inc-2
+returns-in-Inc-2 c = grind (arith, noted-nothing)

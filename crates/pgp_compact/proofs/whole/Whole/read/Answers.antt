@@ -11,20 +11,14 @@ apply-requires c =
 pub absorb-requires : goal.absorb-requires
 absorb-requires c =
     let is = c.requires.is in
-    let next = comes-next c.requires.front c.args.entry.now c.in-Inc.is c.requires.legal is.map_is c.in_ok-apply-in-Inc.ensures.ok in
+    let next = comes-next c.requires.front c.args.entry.now c.in-Inc.is c.requires.legal is.map_is c.in_ok-apply.ensures.ok in
     record { incs = _; each = is.courses_are.each; next = next }
 
-pub returns-in_ok-apply-in-Inc : goal.returns-in_ok-apply-in-Inc
-returns-in_ok-apply-in-Inc c = on_ok c.absorb.result _ _ (λ goes log front legal is.
-    let before = c.in_ok-before-in-Inc.ensures (incs_of front) is.map_is in
-    let next = comes-next front c.args.entry.now c.in-Inc.is legal is.map_is c.in_ok-apply-in-Inc.ensures.ok in
+pub returns : goal.returns
+returns c = on_ok c.absorb.result _ _ (λ goes log front legal is.
+    let before = c.in_ok-before.ensures (incs_of front) is.map_is in
+    let next = comes-next front c.args.entry.now c.in-Inc.is legal is.map_is c.in_ok-apply.ensures.ok in
     grind (arith, incs-inc front c.args.entry.now c.in-Inc.inc, goes (incs_of front) log next before is.courses_are)) c.absorb.ensures
 
-pub returns-in-Info : goal.returns-in-Info
-returns-in-Info c = λ log front legal is. read-other log front c.args.entry.now c.args.self.now (ap inc_of c.in-Info.is) is
-
-pub returns-in-Entries : goal.returns-in-Entries
-returns-in-Entries c = λ log front legal is. read-other log front c.args.entry.now c.args.self.now (ap inc_of c.in-Entries.is) is
-
-pub returns-in-Close : goal.returns-in-Close
-returns-in-Close c = λ log front legal is. read-other log front c.args.entry.now c.args.self.now (ap inc_of c.in-Close.is) is
+pub returns-in_default : goal.returns-in_default
+returns-in_default c = λ log front legal is. read-other log front c.args.entry.now c.args.self.now (grind arith) is
