@@ -35,7 +35,8 @@ impl Bound {
     {
         let begun = epochs_begun(alloc, log)?;
         let booted = devices_booted(alloc, incs)?;
-        let devices = in_order(alloc, &booted)?;
+        let all = (0..=OsdId::MAX).filter_map(OsdId::new);
+        let devices = all.filter(|osd| booted.contains(osd)).collect(alloc)?;
         let most_incs = most(begun.len(), booted.len(), lists_given(incs));
         Ok(Bound {
             begun,
@@ -99,14 +100,6 @@ fn devices_booted(alloc: Global, incs: &[Placed<'_>]) -> Result<HashSet<OsdId>, 
         booted.extend(it.inc.up.as_slice())?;
     }
     Ok(booted)
-}
-
-/// The devices in ascending order.
-fn in_order(alloc: Global, booted: &HashSet<OsdId>) -> Result<Vec<OsdId>, AllocError> {
-    (0..=OsdId::MAX)
-        .filter_map(OsdId::new)
-        .filter(|osd| booted.contains(osd))
-        .collect(alloc)
 }
 
 /// How many pg_temp lists were given, as far as a number of the machine goes.

@@ -1,6 +1,6 @@
 //! A shorter log that may stand for a log.
 
-ghost use Rattle.std.specs.Prelude.{◌≡◌, ◌≤◌, true, length, map, IfOk, IfSome};
+ghost use Rattle.std.specs.Prelude.{◌≡◌, ◌≤◌, true, length, map, IfOk};
 ghost use Rattle.std.specs.Arc.{arc_value};
 ghost use Rattle.pgp_group.specs.Entries.{incs_of};
 ghost use Rattle.pgp_log.specs.Log.{is_legal};
@@ -23,21 +23,13 @@ pub fn join(alloc: Global, entries: &[Arc<Entry>]) -> Result<Vec<Arc<Entry>>, Al
     ensures { IfOk result (λ joined. IsJoinedLog (map arc_value entries.now) (map arc_value joined.items)) }
 {
     let mut log = Log::over(alloc, entries)?;
-    match shorter(alloc, &mut log)? {
-        Some(joined) => Ok(joined),
-        None => shared(alloc, entries),
+    if let Some(shorter) = pieces_of(alloc, &mut log)? {
+        let joined = entries_of(alloc, entries, shorter.pieces.as_slice())?;
+        if may_stand_for(alloc, &mut log, joined.as_slice(), shorter.most_incs)? {
+            return Ok(joined);
+        }
     }
-}
-
-/// The entries of a log that may stand for this one and is short enough; nothing where none is found.
-fn shorter(alloc: Global, log: &mut Log) -> Result<Option<Vec<Arc<Entry>>>, AllocError>
-    ensures { IfOk result (λ found. IfSome found (λ joined. IsJoinedLog log.old (map arc_value joined.items))) }
-{
-    let Some(shorter) = pieces_of(alloc, log)? else {
-        return Ok(None);
-    };
-    let joined = entries_of(alloc, log.entries(), shorter.pieces.as_slice())?;
-    Ok(may_stand_for(alloc, log, joined.as_slice(), shorter.most_incs)?.then_some(joined))
+    shared(alloc, entries)
 }
 
 /// The entries of the pieces of a log.

@@ -105,11 +105,8 @@ fn write_weight(out: &mut Writer, _alloc: Global, it: &DeviceWeight) -> Result<(
 }
 
 fn write_epoch(out: &mut Writer, _alloc: Global, it: &DeviceEpoch) -> Result<(), AllocError> {
-    write_pair(
-        out,
-        u64::from(it.osd.number()),
-        u64::from(it.epoch.number()),
-    )
+    let (osd, epoch) = (it.osd.number(), it.epoch.number());
+    write_pair(out, u64::from(osd), u64::from(epoch))
 }
 
 fn write_sizes(out: &mut Writer, _alloc: Global, sizes: &PoolSizes) -> Result<(), AllocError> {
@@ -196,21 +193,17 @@ fn write_bucket(out: &mut Writer, alloc: Global, bucket: &BucketSpec) -> Result<
         BucketAlg::Straw2 => "straw2",
     };
     write_field(out, alloc, "alg", &alg)?;
-    write_list(
-        out,
-        alloc,
-        "items",
-        &bucket.items,
-        |out, _, item| out.i64(i64::from(*item)),
-    )?;
+    write_list(out, alloc, "items", &bucket.items, write_item)?;
     if bucket.alg != BucketAlg::Uniform {
-        write_list(
-            out,
-            alloc,
-            "weights",
-            &bucket.weights,
-            |out, _, weight| out.u64(u64::from(*weight)),
-        )?;
+        write_list(out, alloc, "weights", &bucket.weights, write_item_weight)?;
     }
     out.end_object()
+}
+
+fn write_item(out: &mut Writer, _alloc: Global, item: &i32) -> Result<(), AllocError> {
+    out.i64(i64::from(*item))
+}
+
+fn write_item_weight(out: &mut Writer, _alloc: Global, weight: &u32) -> Result<(), AllocError> {
+    out.u64(u64::from(*weight))
 }

@@ -43,26 +43,19 @@ pub fn pieces_of(alloc: Global, log: &mut Log) -> Result<Option<Shorter>, AllocE
     let entries = shared(alloc, log.entries())?;
     let incs = incs_of(alloc, entries.as_slice())?;
     let bound = Bound::of(alloc, log, incs.as_slice())?;
-    shorter_within(alloc, log.map(), entries.as_slice(), incs.as_slice(), bound)
-}
-
-/// A shorter log in place of one of this map, these entries and incrementals; nothing where there is none.
-fn shorter_within(
-    alloc: Global,
-    map: &OsdMap,
-    entries: &[Arc<Entry>],
-    incs: &[Placed<'_>],
-    bound: Bound,
-) -> Result<Option<Shorter>, AllocError>
-    ensures { IfOk result (λ found. IfSome found (λ shorter. shorter.most_incs ≡ bound.most_incs)) }
-{
+    let map = log.map();
     let keeps_destroyed = entries.iter().any(|entry| is_of_destroyed(map, entry));
-    let starts = Starts::of(alloc, map, incs, &bound.begun, keeps_destroyed)?;
+    let starts = Starts::of(alloc, map, incs.as_slice(), &bound.begun, keeps_destroyed)?;
     if starts.are_all() {
         return Ok(None);
     }
     let mut pieces = Pieces::new(alloc, bound.devices);
-    if !pieces.put_all(entries, incs, &starts, keeps_destroyed)? {
+    if !pieces.put_all(
+        entries.as_slice(),
+        incs.as_slice(),
+        &starts,
+        keeps_destroyed,
+    )? {
         return Ok(None);
     }
     Ok(Some(Shorter {

@@ -49,8 +49,8 @@ pub(crate) struct Starts {
 }
 
 impl Starts {
-    /// Those of the log of this map whose incrementals are these. Intervals that matter begin in the epochs `begun`. With
-    /// `keeps_destroyed` the last incremental but one is a start too: devices that are destroyed stay until the last one.
+    /// Those of the log of this map whose incrementals are these. The first and the last one are starts, and intervals that matter begin
+    /// in the epochs `begun`. With `keeps_destroyed` the last but one is a start too: devices that are destroyed stay until the last one.
     pub fn of(
         alloc: Global,
         map: &OsdMap,
@@ -58,7 +58,11 @@ impl Starts {
         begun: &HashSet<u32>,
         keeps_destroyed: bool,
     ) -> Result<Self, AllocError> {
-        let mut starts = Starts::of_ends(alloc, incs.len())?;
+        let mut starts = Starts {
+            starts: Vec::from_elem(alloc, false, incs.len())?,
+        };
+        starts.mark(Some(0));
+        starts.mark(incs.len().checked_sub(1));
         if keeps_destroyed {
             starts.mark(incs.len().checked_sub(2));
         }
@@ -67,15 +71,6 @@ impl Starts {
         starts.mark_many_lists(alloc, incs)?;
         starts.mark_first_deaths(alloc, incs)?;
         Ok(starts)
-    }
-
-    /// The first and the last one.
-    fn of_ends(alloc: Global, count: usize) -> Result<Self, AllocError> {
-        let mut starts = Vec::new(alloc);
-        for place in 0..count {
-            starts.push(place == 0 || place == count - 1)?;
-        }
-        Ok(Starts { starts })
     }
 
     /// The incremental at this place begins a run, or there is none.
