@@ -1,5 +1,5 @@
 -- The entries of a log that C tells.
-use Rattle.std.proofs.Common.{◌≡◌, ℕ, ◌≤◌, List, [], ◌∷◌, length, map, nat_le, Bool, true, false, ◌&&◌, Option, Some, None, if◌then◌else◌, inl, inr, ◌⊎◌, ap, arith, refl, subst, sym, min, ◌∙◌, length-take}
+use Rattle.std.proofs.Common.{◌≡◌, ◌≤◌, List, [], ◌∷◌, length, map, nat_le, Bool, true, false, ◌&&◌, Option, Some, None, if◌then◌else◌, inl, inr, ◌⊎◌, ap, arith, refl, subst, sym, min, ◌∙◌, length-take}
 use Rattle.std.proofs.lemmas.Bool.{cases_Bool}
 use Rattle.std.proofs.lemmas.Bool.Decides.{nat_tests}
 use Rattle.std.proofs.lemmas.Str.{IsUtf8-from_is_utf8, is_utf8-from_IsUtf8}

@@ -1,4 +1,4 @@
-use Rattle.std.proofs.Common.{◌≡◌, Err, Some, inl, map, rules, sym, true, ◌∙◌}
+use Rattle.std.proofs.Common.{◌≡◌, Err, inl, map, rules, sym, true, ◌∙◌}
 use Rattle.std.proofs.lemmas.Option.{same_Some}
 use Rattle.std.specs.List.{list_all}
 use Rattle.pgp_c.specs.Ask.{group}

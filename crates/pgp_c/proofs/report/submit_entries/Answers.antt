@@ -1,4 +1,4 @@
-use Rattle.std.proofs.Common.{inl, inr, rules, subst, sym}
+use Rattle.std.proofs.Common.{inl, inr, rules, subst}
 use Rattle.pgp_ids.specs.declared.entry.Entry.TheVariants as entry
 use Rattle.pgp_c.specs.Submit.{TellsEntry}
 use Rattle.pgp_c.proofs.report.submit_entries.Goals as goal

@@ -1,5 +1,4 @@
-use Rattle.std.proofs.Common.{◌≡◌, ◌≤◌, Err, Some, ap, arith, length, rules, subst, sym, ◌∙◌}
-use Rattle.pgp_ids.specs.declared.log_entry.Change.{Change}
+use Rattle.std.proofs.Common.{◌≡◌, ◌≤◌, Err, Some, ap, arith, rules, subst, sym, ◌∙◌}
 use Rattle.pgp_c.specs.Each.{IsWhy}
 use Rattle.pgp_c.specs.Locate.{IsName}
 use Rattle.pgp_c.specs.Report.{change_of, given_log_entry, given_name}

@@ -1,4 +1,4 @@
-use Rattle.pgp_compact.proofs.Common.{ap, arith, faultless-tree, fits-faultless, inc_of, incs-inc, incs_of, legal-last, on_ok}
+use Rattle.pgp_compact.proofs.Common.{arith, faultless-tree, fits-faultless, incs-inc, incs_of, legal-last, on_ok}
 use Rattle.pgp_compact.proofs.WholeLemmas.{comes-next, read-other}
 use Rattle.pgp_compact.proofs.whole.Whole.read.Goals as goal
 
