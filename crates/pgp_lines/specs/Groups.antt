@@ -3,12 +3,8 @@ use Rattle.std.specs.Prelude.{ℕ, ◌-◌, List, ◌++◌, length, map, replica
 use Rattle.serde_json.specs.Data.{Data}
 use Rattle.pgp_ids.specs.Parts.{set_of, has_twice}
 use Rattle.pgp_ids.specs.declared.part.Part.{Part}
-use Rattle.pgp_lines.specs.Shapes.{number_in, pair_in, list_in, ◌>>=◌}
-use Rattle.pgp_lines.specs.Ids.{byte_in}
-
--- a slot
-abbrev pub slot_in : Data → Option ℕ
-slot_in d = number_in 0 15 d
+use Rattle.pgp_lines.specs.Shapes.{pair_in, list_in, ◌>>=◌}
+use Rattle.pgp_lines.specs.Ids.{slot_in, byte_in}
 
 -- a list of at most 16 slots; it may be empty, and have a slot twice
 abbrev pub slots_in : Data → Option (List ℕ)

@@ -17,6 +17,10 @@ place_in nulls d = if nulls && is_some (as_null d) then Some None else option_ma
 abbrev pub pool_id_in : Data → Option ℕ
 pool_id_in d = number_in 1 255 d
 
+-- a slot of a member
+abbrev pub slot_in : Data → Option ℕ
+slot_in d = number_in 0 15 d
+
 -- a number that has one byte
 abbrev pub byte_in : Data → Option ℕ
 byte_in d = number_in 0 255 d

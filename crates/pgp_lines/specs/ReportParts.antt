@@ -9,8 +9,8 @@ use Rattle.pgp_ids.specs.declared.log_entry.Change.TheVariants.{Modify, Delete}
 use Rattle.pgp_ids.specs.declared.log_entry.LogEntry.{LogEntry}
 use Rattle.pgp_ids.specs.declared.pg_id.PgId.{PgId}
 use Rattle.pgp_ids.specs.declared.version.Version.{Version}
-use Rattle.pgp_lines.specs.Shapes.{is_between, number_in, pair_in, quadruple_in, list_in, ◌>>=◌}
-use Rattle.pgp_lines.specs.Ids.{osd_in, word_in, pg_id_in}
+use Rattle.pgp_lines.specs.Shapes.{is_between, pair_in, quadruple_in, list_in, ◌>>=◌}
+use Rattle.pgp_lines.specs.Ids.{osd_in, slot_in, word_in, pg_id_in}
 
 -- [pool, pg]
 abbrev pub pg_in : Data → Option PgId
@@ -23,7 +23,7 @@ abbrev pub member_in : Data → Option Member
 member_in d = do
   parts ← pair_in d
   osd ← osd_in parts.0
-  slot ← number_in 0 15 parts.1
+  slot ← slot_in parts.1
   Some (record { osd = osd; slot = slot })
 
 -- the parts of a version

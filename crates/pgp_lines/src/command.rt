@@ -2,7 +2,6 @@
 ghost use Rattle.std.specs.Prelude.{◌≡◌, true, is_some, Err, IfOk, IfErr, IfSome};
 ghost use Rattle.std.specs.Str.{is_utf8};
 ghost use Rattle.pgp_lines.specs.Value.{view};
-ghost use Rattle.serde_json.specs.Read.{read};
 ghost use Rattle.pgp_lines.specs.LineFault.{line_fault_of, not_json, IsRead};
 ghost use Rattle.pgp_lines.specs.Command.{command_in, data_of, command_of, HasFewEpochs};
 ghost use Rattle.pgp_lines.specs.Op.{op_in};
@@ -177,22 +176,9 @@ fn read_json<'a>(
     ensures text { IfOk result (λ _. is_utf8 line.now ≡ true) }
     ensures memory { result ≡ Err TextFault.Memory → is_utf8 line.now ≡ true }
 {
-    match from_utf8(line) {
-        Ok(text) => read_text(arena, text, room),
-        Err(_) => Err(TextFault::NotJson),
-    }
-}
-
-/// The tokens of a text.
-fn read_text<'a>(
-    arena: &'a Bump,
-    text: &'a str,
-    room: &'a mut Scratch,
-) -> Result<Tokens<'a>, TextFault>
-    ensures ok { IfOk result (λ tokens. read text.now ≡ Some (view tokens)) }
-    ensures err { IfErr result
-        (λ fault. IfSome (line_fault_of fault) (λ f. (read text.now ≡ None) × (f ≡ not_json))) }
-{
+    let Ok(text) = from_utf8(line) else {
+        return Err(TextFault::NotJson);
+    };
     match Tape::parse(text, room, Vec::new(arena)) {
         Ok(tokens) => if is_readable(tokens.nodes()) {
             Ok(tokens)

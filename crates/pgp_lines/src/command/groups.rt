@@ -1,15 +1,12 @@
 //! The parts of a grouped pool.
-ghost use Rattle.std.specs.Prelude.{◌≡◌, ◌<◌, option_map, IfSome};
+ghost use Rattle.std.specs.Prelude.{◌≡◌};
 ghost use Rattle.pgp_lines.specs.Value.{view};
-ghost use Rattle.pgp_lines.specs.Groups.{slot_in, slots_in, part_from, part_in, groups_in};
+ghost use Rattle.pgp_lines.specs.Groups.{part_in, groups_in};
 
 use super::lists::{Plain, read_pair};
-use super::numbers::read_number;
+use super::numbers::read_slot;
 use super::value::Value;
 use pgp_ids::{MAX_PARTS, Part, Parts};
-
-/// The greatest slot of a member in its group.
-const MAX_SLOT: u64 = 15;
 
 /// How many slots the list of a part has at most.
 const MAX_SLOTS: usize = 16;
@@ -34,18 +31,12 @@ impl Plain for Parts {
     }
 }
 
-/// `[list of slots, least]`.
+/// `[list of at most 16 slots, least]`.
 fn read_part(value: &Value<'_, '_>) -> Option<Part>
     ensures { result ≡ part_in (view value.now) }
 {
-    let (slots, least) = read_pair(value)?;
-    part_of(&slots, u8::from_value(&least)?)
-}
-
-/// The part of a list of at most 16 slots.
-fn part_of(list: &Value<'_, '_>, least: u8) -> Option<Part>
-    ensures { result ≡ option_map (part_from least) (slots_in (view list.now)) }
-{
+    let (list, least) = read_pair(value)?;
+    let least = u8::from_value(&least)?;
     let mut items = list.items()?;
     let mut slots = [0; MAX_SLOTS];
     let mut count = 0;
@@ -57,13 +48,4 @@ fn part_of(list: &Value<'_, '_>, least: u8) -> Option<Part>
         count += 1;
     }
     Some(Part::new(&slots[..count], least))
-}
-
-/// A slot, 0 to 15.
-fn read_slot(value: &Value<'_, '_>) -> Option<u8>
-    ensures value { result ≡ slot_in (view value.now) }
-    ensures within { IfSome result (λ slot. slot < 16) }
-{
-    let slot = read_number(value, 0, MAX_SLOT)?;
-    Some(slot as u8)
 }

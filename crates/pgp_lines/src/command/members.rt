@@ -6,12 +6,9 @@ ghost use Rattle.pgp_lines.specs.Devices.{device_weight_in, device_epoch_in};
 ghost use Rattle.pgp_lines.specs.ReportParts.{pg_in, member_in, version_of, version_in};
 
 use super::lists::{Plain, read_pair};
-use super::numbers::{read_group, read_number};
+use super::numbers::{read_group, read_slot};
 use super::value::Value;
 use pgp_ids::{DeviceEpoch, DeviceWeight, Epoch, Member, OsdId, PgId, Version};
-
-/// The greatest slot of a member in its group.
-const MAX_SLOT: u64 = 15;
 
 impl Plain for bool {
     ghost plain = { as_bool };
@@ -37,11 +34,9 @@ impl Plain for Member {
 
     fn from_value(value: &Value<'_, '_>) -> Option<Member> {
         let (osd, slot) = read_pair(value)?;
-        let osd = OsdId::from_value(&osd)?;
-        let slot = read_number(&slot, 0, MAX_SLOT)?;
         Some(Member {
-            osd,
-            slot: slot as u8,
+            osd: OsdId::from_value(&osd)?,
+            slot: read_slot(&slot)?,
         })
     }
 }

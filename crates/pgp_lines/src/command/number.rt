@@ -1,7 +1,7 @@
 //! What the text of a number stands for, as `serde_json` reads it.
-ghost use Rattle.std.specs.Prelude.{◌≡◌, ◌==◌, ◌<◌, IsTrue, true, false, option_map, length, slice_index};
+ghost use Rattle.std.specs.Prelude.{◌≡◌, ◌==◌, ◌<◌, IsTrue, option_map, length, slice_index};
 ghost use Rattle.serde_json.specs.Find.{as_u64, as_i64};
-ghost use Rattle.serde_json.specs.Read.{number_of, number_from, float_of};
+ghost use Rattle.serde_json.specs.Read.{number_of, number_from};
 ghost use Rattle.pgp_lines.specs.Value.{num_of};
 
 use fast_float::{Numeral, parse_u64};
@@ -20,7 +20,8 @@ impl Number {
         ensures { option_map num_of result ≡ number_of text.now }
     {
         let bytes = text.as_bytes();
-        if !has_plus(bytes) {
+        // `parse_u64` takes a `+`, which JSON hasn't.
+        if !begins_with(bytes, b'+') {
             if let Ok(n) = parse_u64(bytes) {
                 return Some(Number::Whole(n));
             }
@@ -32,42 +33,27 @@ impl Number {
     fn scan(bytes: &[u8]) -> Option<Number>
         ensures { option_map num_of result ≡ number_of bytes.now }
     {
-        if has_minus(bytes) {
-            Number::negative(&Numeral::scan(&bytes[1..]))
+        if begins_with(bytes, b'-') {
+            Number::of_numeral(true, &Numeral::scan(&bytes[1..]))
         } else {
-            Number::unsigned(&Numeral::scan(bytes))
+            Number::of_numeral(false, &Numeral::scan(bytes))
         }
     }
 
-    fn unsigned(numeral: &Numeral<'_>) -> Option<Number>
-        ensures { option_map num_of result ≡ number_from false numeral.now }
+    fn of_numeral(negative: bool, numeral: &Numeral<'_>) -> Option<Number>
+        ensures { option_map num_of result ≡ number_from negative numeral.now }
     {
-        match numeral.to_u64() {
-            Some(n) => Some(Number::Whole(n)),
-            None => Number::nearest(false, numeral),
-        }
-    }
-
-    fn negative(numeral: &Numeral<'_>) -> Option<Number>
-        ensures { option_map num_of result ≡ number_from true numeral.now }
-    {
-        if let Some(n) = numeral.to_i64(true) {
-            if n < 0 {
-                return Some(Number::Negative(n));
+        if negative {
+            if let Some(n) = numeral.to_i64(true) {
+                if n < 0 {
+                    return Some(Number::Negative(n));
+                }
             }
+        } else if let Some(n) = numeral.to_u64() {
+            return Some(Number::Whole(n));
         }
-        Number::nearest(true, numeral)
-    }
-
-    fn nearest(negative: bool, numeral: &Numeral<'_>) -> Option<Number>
-        ensures { option_map num_of result ≡ float_of negative numeral.now }
-    {
         let x = numeral.to_float::<f64>(negative);
-        if x.is_finite() {
-            Some(Number::Real(x))
-        } else {
-            None
-        }
+        x.is_finite().then_some(Number::Real(x))
     }
 
     pub(super) fn as_u64(self) -> Option<u64>
@@ -83,27 +69,17 @@ impl Number {
         ensures { result ≡ as_i64 (num_of self) }
     {
         match self {
-            Number::Whole(n) => if n <= i64::MAX as u64 {
-                Some(n as i64)
-            } else {
-                None
-            },
+            Number::Whole(n) => i64::try_from(n).ok(),
             Number::Negative(n) => Some(n),
             Number::Real(_) => None,
         }
     }
 }
 
-fn has_minus(bytes: &[u8]) -> bool
-    ensures value { result ≡ (slice_index bytes.now 0 == 45) }
+fn begins_with(bytes: &[u8], sign: u8) -> bool
+    requires { 0 < sign }
+    ensures value { result ≡ (slice_index bytes.now 0 == sign) }
     ensures len { IsTrue result → 0 < length bytes.now }
 {
-    !bytes.is_empty() && bytes[0] == b'-'
-}
-
-/// Whether a text begins with `+`, which `parse_u64` takes and JSON hasn't.
-fn has_plus(bytes: &[u8]) -> bool
-    ensures { result ≡ (slice_index bytes.now 0 == 43) }
-{
-    !bytes.is_empty() && bytes[0] == b'+'
+    !bytes.is_empty() && bytes[0] == sign
 }

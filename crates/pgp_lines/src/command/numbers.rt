@@ -1,8 +1,8 @@
 //! Whole numbers of a range, and the ids and epochs that they stand for.
-ghost use Rattle.std.specs.Prelude.{◌≡◌, ◌≤◌, ◌≤ℤ◌, true, IfSome};
+ghost use Rattle.std.specs.Prelude.{◌≡◌, ◌<◌, ◌≤◌, ◌≤ℤ◌, true, IfSome};
 ghost use Rattle.pgp_lines.specs.Value.{view};
 ghost use Rattle.pgp_lines.specs.Shapes.{number_in, integer_in};
-ghost use Rattle.pgp_lines.specs.Ids.{osd_in, place_in, pool_id_in, byte_in, word_in, pg_id_in};
+ghost use Rattle.pgp_lines.specs.Ids.{osd_in, place_in, pool_id_in, slot_in, byte_in, word_in, pg_id_in};
 
 use super::lists::Plain;
 use super::trail::Wanted;
@@ -12,13 +12,16 @@ use pgp_ids::{Epoch, OsdId, PgId, Place, PoolId};
 /// The greatest number of a group in its pool.
 const MAX_PG: u64 = 1023;
 
+/// The greatest slot of a member in its group.
+const MAX_SLOT: u64 = 15;
+
 /// A whole number from `low` to `high`.
 pub(super) fn read_number(value: &Value<'_, '_>, low: u64, high: u64) -> Option<u64>
     ensures value { result ≡ number_in low high (view value.now) }
     ensures within { IfSome result (λ n. n ≤ high) }
 {
     value.look(Wanted::Number(low, high));
-    let n = value.as_u64()?;
+    let n = value.number()?.as_u64()?;
     (low <= n && n <= high).then_some(n)
 }
 
@@ -29,7 +32,7 @@ pub(super) fn read_integer(value: &Value<'_, '_>, low: i64, high: i64) -> Option
     ensures below { IfSome result (λ n. n ≤ℤ high) }
 {
     value.look(Wanted::Integer(low, high));
-    let n = value.as_i64()?;
+    let n = value.number()?.as_i64()?;
     (low <= n && n <= high).then_some(n)
 }
 
@@ -82,6 +85,15 @@ pub(super) fn read_group(pool: &Value<'_, '_>, pg: &Value<'_, '_>) -> Option<PgI
         pool,
         pg: pg as u16,
     })
+}
+
+/// A slot of a member in its group, 0 to 15.
+pub(super) fn read_slot(value: &Value<'_, '_>) -> Option<u8>
+    ensures value { result ≡ slot_in (view value.now) }
+    ensures within { IfSome result (λ slot. slot < 16) }
+{
+    let slot = read_number(value, 0, MAX_SLOT)?;
+    Some(slot as u8)
 }
 
 /// A number of one byte, 0 to 255.

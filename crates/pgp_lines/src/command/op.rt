@@ -1,16 +1,16 @@
 //! The operations, in one table: the name of each, the keys that its line may have, and what reads the values at them.
 
-ghost use Rattle.std.specs.Prelude.{◌≡◌, ◌∷◌, codes, if◌then◌else◌, Ok, map};
+ghost use Rattle.std.specs.Prelude.{◌≡◌, Ok, map};
 ghost use Rattle.pgp_lines.specs.Value.{view};
 ghost use Rattle.pgp_lines.specs.LineFault.{IsRead};
-ghost use Rattle.pgp_lines.specs.Op.{inc_keys, op_keys, op_name, op_named};
+ghost use Rattle.pgp_lines.specs.Op.{op_keys, op_name, op_named};
 ghost use Rattle.pgp_lines.specs.Command.{values_of};
 
 use super::Command;
 use super::fields::read_required;
 use super::format::{Format, judge_format};
 use super::incremental::read_inc;
-use super::reports::{read_entries, read_info, read_locate};
+use super::reports::{read_entries, read_info};
 use super::trace::read_trace;
 use super::value::Value;
 use pgp_ids::{Entry, TextFault};
@@ -68,7 +68,8 @@ impl Op {
             Op::Ask => &["op", "pg", "v"],
             Op::Close => &["op", "v"],
             Op::Entries => &["from", "log", "op", "pg", "stamp", "v"],
-            Op::Inc => inc_keys(format.has_after()),
+            Op::Inc if format.has_after() => INC_KEYS,
+            Op::Inc => &INC_KEYS[1..],
             Op::Info => &[
                 "complete",
                 "from",
@@ -112,7 +113,9 @@ impl Op {
             Op::Inc => Ok(Command::Submit(Entry::Inc(read_inc(alloc, value, last, format)?))),
             Op::Info => Ok(Command::Submit(Entry::Info(read_info(alloc, value, format)?))),
             Op::Locate => {
-                let (pool, name) = read_locate(alloc, value, format)?;
+                let name = read_required(alloc, value, "name")?;
+                let pool = read_required(alloc, value, "pool")?;
+                judge_format(alloc, value, format)?;
                 Ok(Command::Locate { pool, name })
             }
             Op::Trace => read_trace(alloc, value, last, format),
@@ -120,15 +123,8 @@ impl Op {
     }
 }
 
-/// The keys that the line of an incremental may have in the last version.
+/// The keys that the line of an incremental may have in the last version; the others have all but the first.
 const INC_KEYS: &[&str] = &[
     "after", "crush", "down", "epoch", "gone", "lost", "op", "pools", "sizes", "temp", "up",
     "up_thru", "v", "weight",
 ];
-
-/// The keys that the line of an incremental may have, with `after` or without it.
-fn inc_keys(has_after: bool) -> &'static [&'static str]
-    ensures { map (λ k. k.now) result.now ≡ (if has_after then codes "after" ∷ inc_keys else inc_keys) }
-{
-    if has_after { INC_KEYS } else { &INC_KEYS[1..] }
-}

@@ -1,18 +1,18 @@
-//! The lines of a member's info, of a part of its log, and of the question where an object lies. The keys of each are read in
-//! ascending byte order, so that the least bad one is told.
+//! The lines of a member's info and of a part of its log. The keys of each are read in ascending byte order, so that the least
+//! bad one is told.
 ghost use Rattle.std.specs.Prelude.{codes};
 ghost use Rattle.pgp_lines.specs.Value.{view};
 ghost use Rattle.pgp_lines.specs.LineFault.{IsRead};
 ghost use Rattle.pgp_lines.specs.Shapes.{required};
 ghost use Rattle.pgp_lines.specs.ReportParts.{name_in, change_in, log_entry_in, log_in};
-ghost use Rattle.pgp_lines.specs.Reports.{info_of_line, entries_of_line, locate_of_line};
+ghost use Rattle.pgp_lines.specs.Reports.{info_of_line, entries_of_line};
 
 use super::fields::{or_bad_field, read_optional, read_required};
 use super::format::{Format, judge_format};
 use super::lists::{Plain, Shape, read_list_within, read_quadruple};
 use super::members::version_of;
 use super::value::Value;
-use pgp_ids::{Change, Epoch, Info, LogEntry, ObjectName, PoolId, Report, Seq, TextFault};
+use pgp_ids::{Change, Epoch, Info, LogEntry, ObjectName, Report, Seq, TextFault};
 use std::alloc::{AllocError, Global};
 
 /// The info of a line whose keys are known, and which names this version.
@@ -127,18 +127,4 @@ impl Shape for ObjectName {
         };
         ObjectName::new(alloc, name)
     }
-}
-
-/// The pool and the name of an object, in a line that names this version.
-pub(super) fn read_locate(
-    alloc: Global,
-    value: &Value<'_, '_>,
-    format: Option<Format>,
-) -> Result<(PoolId, ObjectName), TextFault>
-    ensures { IsRead result (locate_of_line format (view value.now)) }
-{
-    let name = read_required(alloc, value, "name")?;
-    let pool = read_required(alloc, value, "pool")?;
-    judge_format(alloc, value, format)?;
-    Ok((pool, name))
 }

@@ -8,7 +8,7 @@ ghost use Rattle.json.specs.Json as spec;
 ghost use Rattle.json.specs.Find.{as_number as number_text, as_object, InMembers};
 ghost use Rattle.json.specs.Tape.{node_token};
 ghost use Rattle.json.specs.Tree.{json_tokens};
-ghost use Rattle.serde_json.specs.Find.{get, as_null, as_bool, as_str, as_number, as_u64, as_i64};
+ghost use Rattle.serde_json.specs.Find.{get, as_null, as_bool, as_str};
 ghost use Rattle.serde_json.specs.Read.{number_of};
 ghost use Rattle.pgp_lines.specs.Shapes.{items_in};
 ghost use Rattle.pgp_lines.specs.Value.{num_of, json_of, view, items_left, is_readable};
@@ -126,22 +126,8 @@ impl<'t, 'a> Value<'t, 'a> {
         self.element.is_null()
     }
 
-    /// A whole number from 0 on that has 64 bits.
-    pub(super) fn as_u64(&self) -> Option<u64>
-        ensures { result ≡ option_and_then as_u64 (as_number (view self.now)) }
-    {
-        self.number().and_then(Number::as_u64)
-    }
-
-    /// A whole number of 64 bits with a sign.
-    pub(super) fn as_i64(&self) -> Option<i64>
-        ensures { result ≡ option_and_then as_i64 (as_number (view self.now)) }
-    {
-        self.number().and_then(Number::as_i64)
-    }
-
     /// The number, where it is one in range.
-    fn number(&self) -> Option<Number>
+    pub(super) fn number(&self) -> Option<Number>
         ensures { option_map num_of result
             ≡ option_and_then number_of (number_text (json_of self.now)) }
     {

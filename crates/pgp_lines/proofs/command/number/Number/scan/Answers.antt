@@ -3,19 +3,19 @@ use Rattle.fast_float.specs.Text.{scan}
 use Rattle.serde_json.specs.Read.{number_of, number_from}
 use Rattle.pgp_lines.proofs.command.number.Number.scan.Goals as goal
 
-pub returns-then-has_minus : goal.returns-then-has_minus
+pub returns-then-begins_with : goal.returns-then-begins_with
 unfolding number_of
-returns-then-has_minus c =
+returns-then-begins_with c =
     let s = c.args.bytes.now in
-    let signed : (get_or s 0 0 == 45) ≡ true = sym c.if-has_minus.ensures.value in
+    let signed : (get_or s 0 0 == 45) ≡ true = sym c.if-begins_with.ensures.value in
     let parts : c.scan.result ≡ scan (drop 1 s) = c.scan.ensures.parts ∙ ap scan (take_all _ (drop 1 s) (omega (arith, length-drop 1 s))) in
     let read : number_from true (scan (drop 1 s)) ≡ number_of s = rw signed in
-    c.negative.ensures ∙ ap (number_from true) parts ∙ read
+    c.of_numeral.ensures ∙ ap (number_from true) parts ∙ read
 
-pub returns-else-has_minus : goal.returns-else-has_minus
+pub returns-else-begins_with : goal.returns-else-begins_with
 unfolding number_of
-returns-else-has_minus c =
+returns-else-begins_with c =
     let s = c.args.bytes.now in
-    let unsigned : (get_or s 0 0 == 45) ≡ false = sym c.if-has_minus.ensures.value in
+    let unsigned : (get_or s 0 0 == 45) ≡ false = sym c.if-begins_with.ensures.value in
     let read : number_from false (scan s) ≡ number_of s = rw unsigned in
-    c.unsigned.ensures ∙ ap (number_from false) c.scan-else-has_minus.ensures.parts ∙ read
+    c.of_numeral-else-begins_with.ensures ∙ ap (number_from false) c.scan-else-begins_with.ensures.parts ∙ read
