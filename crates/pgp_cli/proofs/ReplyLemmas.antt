@@ -10,7 +10,7 @@ use Rattle.pgp_group.specs.Entries.{incs_of}
 use Rattle.pgp_lines.specs.declared.command.Command.TheVariants.{Submit, Locate}
 use Rattle.pgp_text.specs.declared.reply.Reply.TheVariants.{Accepted, Located, Refused}
 use Rattle.pgp_text.specs.declared.reply.line_refusal.LineRefusal.TheVariants as why
-use Rattle.pgp_text.specs.EntryOp.{entry_op}
+use Rattle.pgp_lines.specs.Op.{entry_op}
 use Rattle.pgp_log.specs.Fits.{fits}
 use Rattle.pgp_log.specs.Locate.{place_with, place_of_object}
 use Rattle.pgp_log.specs.Log.{epoch_of, is_legal, IsFrontOf}

@@ -17,8 +17,8 @@ use Rattle.pgp_sets.specs.Sets.{pool_membership}
 use Rattle.pgp_group.specs.Entries.{incs_of}
 use Rattle.pgp_group.specs.View.{scratch}
 use Rattle.pgp_lines.specs.Command.{command_of}
-use Rattle.pgp_text.specs.EntryOp.{entry_op}
 use Rattle.pgp_lines.specs.LineFault.{LineFault, line_too_long}
+use Rattle.pgp_lines.specs.Op.{entry_op}
 use Rattle.pgp_text.specs.Reply.{reply_text, fault_text}
 use Rattle.pgp_lines.specs.declared.command.Command.{Command}
 use Rattle.pgp_lines.specs.declared.command.Command.TheVariants.{Submit, Ask, Locate, Trace}

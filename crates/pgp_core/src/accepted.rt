@@ -6,7 +6,7 @@ ghost use Rattle.pgp_text.specs.declared.reply.Reply.TheVariants.{Accepted};
 
 use itoa::Buffer;
 use pgp_ids::Epoch;
-use pgp_text::EntryOp;
+use pgp_lines::Op;
 use std::alloc::AllocError;
 
 /// How many bytes the answer to an entry that was taken has at most, with its line feed.
@@ -16,7 +16,7 @@ pub const LONGEST_ACCEPTED: usize = 75;
 /// such answer, no memory is taken.
 pub fn put_accepted(
     text: &mut Vec<u8>,
-    op: EntryOp,
+    op: Op,
     count: usize,
     epoch: Epoch,
 ) -> Result<(), AllocError>

@@ -24,10 +24,11 @@ use super::answer::{Answerer, NoReply, put_view};
 use super::counts::EntryCounts;
 use super::want::Want;
 use pgp_ids::{AskRefusal, Entry, LocateRefusal, ObjectName, PgId, PoolId, Refusal, View};
+use pgp_lines::Op;
 use pgp_log::{JudgedLog, RawSets};
 use pgp_map::OsdMap;
 use pgp_shard::ShardState;
-use pgp_text::{EntryOp, LineRefusal, Reply, ReplyWriter};
+use pgp_text::{LineRefusal, Reply, ReplyWriter};
 use std::alloc::{AllocError, Global};
 use std::marker::Model;
 use std::sync::Arc;
@@ -194,7 +195,7 @@ impl Log {
         ensures kept { OnErr result (self.new ≡ self.old) }
         ensures memory { OnErr result (MayFindNone self.old (Submit entry)) }
     {
-        let op = EntryOp::of(&entry);
+        let op = Op::of(&entry);
         match self.take_if_fits(entry)? {
             None => Ok(Reply::Accepted {
                 op,

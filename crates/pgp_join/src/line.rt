@@ -5,8 +5,8 @@ use pgp_ids::{
     BucketAlg, BucketSpec, DeviceEpoch, DeviceWeight, Entry, Incremental, Info, LogEntry, OsdId,
     Part, PoolKind, PoolSizes, PoolSpec, Report, Seq, TempList,
 };
-use pgp_lines::Format;
-use pgp_text::{EntryOp, Json, write_field, write_pair};
+use pgp_lines::{Format, Op};
+use pgp_text::{Json, write_field, write_pair};
 use std::alloc::{AllocError, Global};
 
 /// The line of version 3 that gives this entry, without a line feed. Empty lists are left out.
@@ -15,7 +15,7 @@ use std::alloc::{AllocError, Global};
 pub fn entry_line(alloc: Global, entry: &Entry) -> Result<Vec<u8>, AllocError> {
     let mut out = Writer::new(Vec::new(alloc));
     out.begin_object()?;
-    write_field(&mut out, alloc, "op", &EntryOp::of(entry).name())?;
+    write_field(&mut out, alloc, "op", &Op::of(entry).name())?;
     write_field(&mut out, alloc, "v", &Format::Three.number())?;
     match entry {
         Entry::Inc(inc) => write_inc(&mut out, alloc, inc)?,

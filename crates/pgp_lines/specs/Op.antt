@@ -3,6 +3,8 @@ use Rattle.std.specs.Prelude.{ℕ, List, [], ◌∷◌, codes, if◌then◌else�
 use Rattle.std.specs.Str.{bytes_eq}
 use Rattle.serde_json.specs.Data.{Data}
 use Rattle.serde_json.specs.Find.{as_str}
+use Rattle.pgp_ids.specs.declared.entry.Entry.{Entry}
+use Rattle.pgp_ids.specs.declared.entry.Entry.TheVariants as entry
 use Rattle.pgp_lines.specs.Shapes.{field}
 use Rattle.pgp_lines.specs.Format.{has_after}
 use Rattle.pgp_lines.specs.declared.command.format.Format.{Format}
@@ -29,6 +31,13 @@ op_name op.Inc = codes "inc"
 op_name op.Info = codes "info"
 op_name op.Locate = codes "locate"
 op_name op.Trace = codes "trace"
+
+-- the operation of an entry's line
+abbrev pub entry_op : Entry → Op
+entry_op (entry.Inc inc) = op.Inc
+entry_op (entry.Info info) = op.Info
+entry_op (entry.Entries report) = op.Entries
+entry_op entry.Close = op.Close
 
 -- the operation that a line names
 abbrev pub op_in : Data → Option Op

@@ -1,7 +1,6 @@
 pub mod Json
 pub mod Answered
 pub mod LineRefusal
-pub mod EntryOp
 pub mod Asked
 pub mod Reply
 pub mod Written

@@ -8,22 +8,21 @@ use Rattle.pgp_ids.specs.declared.past.Past.{Past}
 use Rattle.pgp_ids.specs.declared.pg_id.PgId.{PgId}
 use Rattle.pgp_lines.specs.LineFault.{LineFault, line_too_long, not_json, no_op, unknown_key, bad_field}
 use Rattle.pgp_lines.specs.Op.{op_name}
+use Rattle.pgp_lines.specs.declared.command.op.Op.{Op}
 use Rattle.pgp_lines.specs.declared.command.op.Op.TheVariants as op
 use Rattle.pgp_text.specs.Json.{object_with, number_data}
 use Rattle.pgp_text.specs.Answered.{group_data, place_data, osds_data, intervals_data}
 use Rattle.pgp_text.specs.Asked.{asked_data}
-use Rattle.pgp_text.specs.EntryOp.{entry_op_name}
 use Rattle.pgp_text.specs.LineRefusal.{refusal_data, refused_data}
 use Rattle.pgp_text.specs.declared.reply.Reply.{Reply}
 use Rattle.pgp_text.specs.declared.reply.Reply.TheVariants.{Accepted, Asked, Located, Traced, Refused}
-use Rattle.pgp_text.specs.declared.reply.entry_op.EntryOp.{EntryOp}
 
 -- the log took an entry
-abbrev pub accepted_data : EntryOp → ℕ → ℕ → Data
+abbrev pub accepted_data : Op → ℕ → ℕ → Data
 accepted_data op count epoch = object_with (
     (codes "count", number_data count)
     ∷ (codes "epoch", number_data epoch)
-    ∷ (codes "ok", string (entry_op_name op))
+    ∷ (codes "ok", string (op_name op))
     ∷ [])
 
 -- where a group lies

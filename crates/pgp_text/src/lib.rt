@@ -10,6 +10,5 @@ pub mod laws;
 mod reply;
 
 pub use reply::{
-    EntryOp, EpochNumbers, Json, LineRefusal, Reply, ReplyWriter, write_field, write_pair,
-    write_reply,
+    EpochNumbers, Json, LineRefusal, Reply, ReplyWriter, write_field, write_pair, write_reply,
 };

@@ -1,19 +1,15 @@
 //! The answers to lines, and their text.
 ghost use Rattle.std.specs.Prelude.{◌≡◌, ◌++◌, [], IfOk, OnOk, OnErr};
 ghost use Rattle.json.specs.Print.{print};
-ghost use Rattle.pgp_text.specs.Reply.{accepted_data, located_data, traced_data, reply_data, reply_text};
+ghost use Rattle.pgp_text.specs.Asked.{asked_data};
+ghost use Rattle.pgp_text.specs.Reply.{reply_data, reply_text};
 ghost use Rattle.pgp_text.specs.Written.{tokens_of};
 ghost use Rattle.pgp_text.specs.declared.reply.Reply.TheVariants.{Asked};
 
-mod asked;
-mod entry_op;
-mod intervals;
 mod line_refusal;
 mod parts;
 mod peers;
 
-use asked::write_asked;
-pub use entry_op::EntryOp;
 use json::Writer;
 pub use line_refusal::LineRefusal;
 pub use parts::{EpochNumbers, Json, write_field, write_pair};
@@ -27,7 +23,7 @@ use std::mem;
 pub enum Reply {
     /// The log took an entry, and has `count` entries now; the epoch is that of the map now.
     Accepted {
-        op: EntryOp,
+        op: Op,
         count: usize,
         epoch: Epoch,
     },
@@ -131,73 +127,69 @@ impl ReplyWriter {
 impl Json<Global> for Reply {
     ghost value = { λ _ x. reply_data x };
 
+    #[tactic(auto, using(crate::proofs::Tokens::token_steps))]
     fn write(&self, out: &mut Writer, alloc: Global) -> Result<(), AllocError> {
         match self {
-            Reply::Accepted { op, count, epoch } => write_accepted(alloc, out, *op, *count, *epoch),
+            Reply::Accepted { op, count, epoch } => {
+                out.begin_object()?;
+                write_field(out, alloc, "count", count)?;
+                write_field(out, alloc, "epoch", epoch)?;
+                write_field(out, alloc, "ok", &op.name())?;
+                out.end_object()
+            }
             Reply::Asked(pg, view) => write_asked(alloc, out, *pg, view, view.count, view.epoch),
-            Reply::Located { pg, members, epoch } => write_located(
-                alloc, out, *pg, members, *epoch,
-            ),
-            Reply::Traced { first, past } => write_traced(alloc, out, *first, past),
+            Reply::Located { pg, members, epoch } => {
+                out.begin_object()?;
+                write_field(out, alloc, "acting", &members.acting)?;
+                write_field(out, alloc, "acting_primary", &members.acting_primary)?;
+                write_field(out, alloc, "epoch", epoch)?;
+                write_field(out, alloc, "ok", &Op::Locate.name())?;
+                write_field(out, alloc, "pg", pg)?;
+                write_field(out, alloc, "up", &members.up)?;
+                write_field(out, alloc, "up_primary", &members.up_primary)?;
+                out.end_object()
+            }
+            Reply::Traced { first, past } => {
+                out.begin_object()?;
+                write_field(out, alloc, "first", first)?;
+                write_field(out, alloc, "intervals", past)?;
+                write_field(out, alloc, "ok", &Op::Trace.name())?;
+                out.end_object()
+            }
             Reply::Refused(refused) => refused.write(out, alloc),
         }
     }
 }
 
-#[tactic(auto, using(crate::proofs::Tokens::token_steps))]
-fn write_accepted(
-    alloc: Global,
-    out: &mut Writer,
-    op: EntryOp,
-    count: usize,
-    epoch: Epoch,
-) -> Result<(), AllocError>
-    ensures ok { OnOk result
-        (out.new.tokens ≡ out.old.tokens ++ tokens_of (accepted_data op count epoch)) }
-    ensures before { out.new.before ≡ out.old.before }
-{
-    out.begin_object()?;
-    write_field(out, alloc, "count", &count)?;
-    write_field(out, alloc, "epoch", &epoch)?;
-    write_field(out, alloc, "ok", &op.name())?;
-    out.end_object()
-}
-
-fn write_located(
+/// All that the log says of a group, with this count and this epoch.
+fn write_asked(
     alloc: Global,
     out: &mut Writer,
     pg: PgId,
-    members: &Membership,
+    known: &View,
+    count: usize,
     epoch: Epoch,
 ) -> Result<(), AllocError>
-    ensures ok { OnOk result
-        (out.new.tokens ≡ out.old.tokens ++ tokens_of (located_data pg members.now epoch)) }
+    ensures ok { OnOk result (out.new.tokens
+        ≡ out.old.tokens ++ tokens_of (asked_data pg (record known.now { count = count; epoch = epoch }))) }
     ensures before { out.new.before ≡ out.old.before }
 {
     out.begin_object()?;
-    write_field(out, alloc, "acting", &members.acting)?;
-    write_field(out, alloc, "acting_primary", &members.acting_primary)?;
+    write_field(out, alloc, "acting", &known.acting)?;
+    write_field(out, alloc, "acting_primary", &known.acting_primary)?;
+    write_field(out, alloc, "best", &known.best)?;
+    write_field(out, alloc, "blocked_by", &known.blocked_by)?;
+    write_field(out, alloc, "count", &count)?;
     write_field(out, alloc, "epoch", &epoch)?;
-    write_field(out, alloc, "ok", &Op::Locate.name())?;
+    write_field(out, alloc, "first", &known.first)?;
+    write_field(out, alloc, "intervals", &known.intervals)?;
+    write_field(out, alloc, "les", &known.les)?;
+    write_field(out, alloc, "missing", &known.missing)?;
+    write_field(out, alloc, "ok", &Op::Ask.name())?;
     write_field(out, alloc, "pg", &pg)?;
-    write_field(out, alloc, "up", &members.up)?;
-    write_field(out, alloc, "up_primary", &members.up_primary)?;
-    out.end_object()
-}
-
-fn write_traced(
-    alloc: Global,
-    out: &mut Writer,
-    first: Epoch,
-    past: &Seq<Past>,
-) -> Result<(), AllocError>
-    ensures ok { OnOk result
-        (out.new.tokens ≡ out.old.tokens ++ tokens_of (traced_data first past.now)) }
-    ensures before { out.new.before ≡ out.old.before }
-{
-    out.begin_object()?;
-    write_field(out, alloc, "first", &first)?;
-    write_field(out, alloc, "intervals", past)?;
-    write_field(out, alloc, "ok", &Op::Trace.name())?;
+    write_field(out, alloc, "probe", &known.probe)?;
+    write_field(out, alloc, "up", &known.up)?;
+    write_field(out, alloc, "up_primary", &known.up_primary)?;
+    write_field(out, alloc, "verdict", &known.verdict.name())?;
     out.end_object()
 }

@@ -7,7 +7,8 @@ use pgp_engine::{
 };
 use pgp_feed::Receipt;
 use pgp_ids::{Entry, LocateRefusal, ObjectName, PgId, PoolId};
-use pgp_text::{EntryOp, LineRefusal, Reply, ReplyWriter};
+use pgp_lines::Op;
+use pgp_text::{LineRefusal, Reply, ReplyWriter};
 use std::alloc::Global;
 use std::marker::Model;
 use std::sync::Wait;
@@ -57,7 +58,7 @@ impl<'a, J: Naming, T: Wait> Answerer for EngineAnswerer<'a, J, T> {
 
     /// `Gone`: no copy of the log was lent to judge it by.
     fn reply_to_entry(&mut self, entry: Entry) -> Result<Reply, NoReply> {
-        let op = EntryOp::of(&entry);
+        let op = Op::of(&entry);
         match self.engine.submit_with_epoch(self.rt, entry, &self.at) {
             Ok(SubmitAnswer { at, epoch }) => {
                 let count = at.len();

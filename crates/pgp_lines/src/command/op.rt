@@ -3,7 +3,7 @@
 ghost use Rattle.std.specs.Prelude.{◌≡◌, Ok, map};
 ghost use Rattle.pgp_lines.specs.Value.{view};
 ghost use Rattle.pgp_lines.specs.LineFault.{IsRead};
-ghost use Rattle.pgp_lines.specs.Op.{op_keys, op_name, op_named};
+ghost use Rattle.pgp_lines.specs.Op.{entry_op, op_keys, op_name, op_named};
 ghost use Rattle.pgp_lines.specs.Command.{values_of};
 
 use super::Command;
@@ -29,6 +29,18 @@ pub enum Op {
 }
 
 impl Op {
+    /// The operation of the line that an entry is.
+    pub fn of(entry: &Entry) -> Op
+        ensures { result ≡ entry_op entry.now }
+    {
+        match entry {
+            Entry::Inc(_) => Op::Inc,
+            Entry::Info(_) => Op::Info,
+            Entry::Entries(_) => Op::Entries,
+            Entry::Close => Op::Close,
+        }
+    }
+
     /// The operation of this name.
     pub fn named(name: &str) -> Option<Op>
         ensures { result ≡ op_named name.now }

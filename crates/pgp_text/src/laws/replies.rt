@@ -10,7 +10,7 @@ ghost use Rattle.pgp_lines.specs.LineFault.{bad_field};
 ghost use Rattle.pgp_text.specs.Reply.{fault_text, reply_text};
 ghost use Rattle.pgp_text.specs.WorkedReplies.{members_with_holes, interval_with_holes, traced_answer, located_answer, known_view, asked_answer};
 ghost use Rattle.pgp_text.specs.declared.reply.Reply.TheVariants.{Accepted, Asked, Located, Traced, Refused};
-ghost use Rattle.pgp_text.specs.declared.reply.entry_op.EntryOp.TheVariants as op;
+ghost use Rattle.pgp_lines.specs.declared.command.op.Op.TheVariants as op;
 ghost use Rattle.pgp_text.specs.declared.reply.line_refusal.LineRefusal.TheVariants.{Line, Entry, Ask, Locate};
 
 /// Entries that the log took.

@@ -1,6 +1,6 @@
 //! Refusals, and how they are written.
 ghost use Rattle.std.specs.Prelude.{◌≡◌, option_map};
-ghost use Rattle.pgp_text.specs.LineRefusal.{fault_name, fault_key, refused_number, refused_name, refused_key, refused_tree, refused_data};
+ghost use Rattle.pgp_text.specs.LineRefusal.{refused_number, refused_name, refused_key, refused_tree, refused_data};
 
 use super::parts::{Json, write_field, write_field_if};
 use json::Writer;
@@ -38,7 +38,12 @@ impl LineRefusal {
         ensures { result.now ≡ refused_name self.now }
     {
         match self {
-            LineRefusal::Line(fault) => fault_name(fault),
+            LineRefusal::Line(TextFault::LineTooLong) => "LineTooLong",
+            LineRefusal::Line(TextFault::NotJson) => "NotJson",
+            LineRefusal::Line(TextFault::NoOp) => "NoOp",
+            LineRefusal::Line(TextFault::UnknownKey(_)) => "UnknownKey",
+            LineRefusal::Line(TextFault::BadField(_)) => "BadField",
+            LineRefusal::Line(TextFault::Memory) => "Memory",
             LineRefusal::Entry(refusal) => refusal.name(),
             LineRefusal::Ask(refusal) => refusal.name(),
             LineRefusal::Locate(refusal) => refusal.name(),
@@ -50,7 +55,9 @@ impl LineRefusal {
         ensures { option_map (λ key. key.now) result ≡ refused_key self.now }
     {
         match self {
-            LineRefusal::Line(fault) => fault_key(fault),
+            LineRefusal::Line(TextFault::UnknownKey(key) | TextFault::BadField(key)) => {
+                Some(key.as_str())
+            }
             _ => None,
         }
     }
@@ -63,30 +70,6 @@ impl LineRefusal {
             LineRefusal::Entry(refusal) => refusal.tree(),
             _ => None,
         }
-    }
-}
-
-/// The name of a line's fault.
-fn fault_name(fault: &TextFault) -> &'static str
-    ensures { result.now ≡ fault_name fault.now }
-{
-    match fault {
-        TextFault::LineTooLong => "LineTooLong",
-        TextFault::NotJson => "NotJson",
-        TextFault::NoOp => "NoOp",
-        TextFault::UnknownKey(_) => "UnknownKey",
-        TextFault::BadField(_) => "BadField",
-        TextFault::Memory => "Memory",
-    }
-}
-
-/// The key that a line's fault names.
-fn fault_key(fault: &TextFault) -> Option<&str>
-    ensures { option_map (λ key. key.now) result ≡ fault_key fault.now }
-{
-    match fault {
-        TextFault::UnknownKey(key) | TextFault::BadField(key) => Some(key.as_str()),
-        _ => None,
     }
 }
 

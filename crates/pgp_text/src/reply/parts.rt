@@ -3,11 +3,11 @@ ghost use Rattle.std.specs.Prelude.{◌≡◌, ℕ, [], ◌∷◌, ◌++◌, OnO
 ghost use Rattle.serde_json.specs.Data.{Data, string, boolean};
 ghost use Rattle.pgp_text.specs.Json.{number_data, list_data, option_data};
 ghost use Rattle.pgp_text.specs.LineRefusal.{field_if};
-ghost use Rattle.pgp_text.specs.Answered.{pair_data, group_data, member_data, place_data};
+ghost use Rattle.pgp_text.specs.Answered.{pair_data, group_data, member_data, place_data, interval_data};
 ghost use Rattle.pgp_text.specs.Written.{tokens_of, fields_tokens};
 
 use json::Writer;
-use pgp_ids::{Epoch, Member, OsdId, Osds, PgId, Place, Seq, Version};
+use pgp_ids::{Epoch, Member, OsdId, Osds, Past, PgId, Place, Seq, Version};
 use std::alloc::{AllocError, Global};
 
 /// By which numbers epochs are written.
@@ -212,5 +212,25 @@ pub(super) fn write_field_if<N: EpochNumbers, T: Json<N>>(
     match value {
         Some(value) => write_field(out, numbers, key, value),
         None => Ok(()),
+    }
+}
+
+/// A past interval.
+impl Json<Global> for Past {
+    ghost value = { λ _ x. interval_data x };
+
+    fn write(&self, out: &mut Writer, alloc: Global) -> Result<(), AllocError> {
+        let members = &self.members;
+        out.begin_object()?;
+        write_field(out, alloc, "acting", &members.acting)?;
+        write_field(out, alloc, "acting_primary", &members.acting_primary)?;
+        write_field(out, alloc, "first", &self.first)?;
+        write_field(out, alloc, "last", &self.last)?;
+        write_field(out, alloc, "min_size", &members.min_size)?;
+        write_field(out, alloc, "rw", &self.rw)?;
+        write_field(out, alloc, "size", &members.size)?;
+        write_field(out, alloc, "up", &members.up)?;
+        write_field(out, alloc, "up_primary", &members.up_primary)?;
+        out.end_object()
     }
 }

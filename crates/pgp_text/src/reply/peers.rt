@@ -1,7 +1,7 @@
 //! The states of peers, and the objects that they lack, as JSON.
 ghost use Rattle.std.specs.Prelude.{◌≡◌, ◌++◌, IfOk, OnOk};
 ghost use Rattle.serde_json.specs.Data.{object};
-ghost use Rattle.pgp_text.specs.Asked.{with_object, objects_data, objects_fields, missing_data};
+ghost use Rattle.pgp_text.specs.Asked.{objects_data, objects_fields, missing_data};
 ghost use Rattle.pgp_text.specs.Versions.{versions_members};
 ghost use Rattle.pgp_text.specs.Written.{fields_tokens};
 
@@ -41,6 +41,7 @@ fn write_objects(alloc: Global, out: &mut Writer, state: &PeerState) -> Result<(
 }
 
 /// The versions of objects by their names, in ascending byte order; of a name that is twice in the list the last.
+#[tactic(auto, using(crate::proofs::Versions::version_steps))]
 fn versions_of(
     alloc: Global,
     objects: &[MissingObject],
@@ -49,24 +50,10 @@ fn versions_of(
 {
     let mut versions = BTreeMap::new(alloc);
     for missing in objects {
-        insert_version(alloc, &mut versions, missing)?;
+        let name = String::from_str(alloc, missing.object.as_str())?;
+        versions.insert(name, missing.version)?;
     }
     Ok(versions)
-}
-
-/// Puts an object's version under its name, in place of any that stands there.
-#[tactic(auto, using(crate::proofs::Versions::version_steps))]
-fn insert_version(
-    alloc: Global,
-    versions: &mut BTreeMap<String, Version>,
-    missing: &MissingObject,
-) -> Result<(), AllocError>
-    ensures { OnOk result (versions_members versions.new.entries
-        ≡ with_object (versions_members versions.old.entries) missing.now) }
-{
-    let name = String::from_str(alloc, missing.object.as_str())?;
-    versions.insert(name, missing.version)?;
-    Ok(())
 }
 
 /// An object from name to version.

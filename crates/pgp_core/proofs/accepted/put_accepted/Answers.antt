@@ -1,20 +1,23 @@
 use Rattle.std.proofs.Common.{◌≡◌, ℕ, List, [], ◌∷◌, ◌++◌, codes, decimal, ap, ◌∙◌, append_assoc}
 use Rattle.serde_json.proofs.OnLiterals.{serde_json_on_literals}
 use Rattle.pgp_text.specs.Reply.{reply_text}
-use Rattle.pgp_text.specs.EntryOp.{entry_op_name}
+use Rattle.pgp_lines.specs.Op.{op_name}
 use Rattle.pgp_text.specs.declared.reply.Reply.TheVariants.{Accepted}
-use Rattle.pgp_text.specs.declared.reply.entry_op.EntryOp.{EntryOp}
-use Rattle.pgp_text.specs.declared.reply.entry_op.EntryOp.TheVariants.{Inc, Info, Entries, Close}
+use Rattle.pgp_lines.specs.declared.command.op.Op.{Op}
+use Rattle.pgp_lines.specs.declared.command.op.Op.TheVariants.{Ask, Close, Entries, Inc, Info, Locate, Trace}
 use Rattle.pgp_core.proofs.accepted.put_accepted.Goals as goal
 
-text_is : (op : EntryOp) (count epoch : ℕ)
-    → codes "{\"count\":" ++ (decimal count ++ (codes ",\"epoch\":" ++ (decimal epoch ++ (codes ",\"ok\":\"" ++ (entry_op_name op ++ codes "\"}\n")))))
+text_is : (op : Op) (count epoch : ℕ)
+    → codes "{\"count\":" ++ (decimal count ++ (codes ",\"epoch\":" ++ (decimal epoch ++ (codes ",\"ok\":\"" ++ (op_name op ++ codes "\"}\n")))))
     ≡ reply_text (Accepted op count epoch) ++ 10 ∷ []
 unfolding serde_json_on_literals
+text_is Ask count epoch = simp append_assoc
 text_is Inc count epoch = simp append_assoc
 text_is Info count epoch = simp append_assoc
 text_is Entries count epoch = simp append_assoc
 text_is Close count epoch = simp append_assoc
+text_is Locate count epoch = simp append_assoc
+text_is Trace count epoch = simp append_assoc
 
 -- seven pieces, one put behind the other
 seven : (t t1 t2 t3 t4 t5 t6 t7 a b c d e f h : List ℕ) → t1 ≡ t ++ a → t2 ≡ t1 ++ b → t3 ≡ t2 ++ c → t4 ≡ t3 ++ d → t5 ≡ t4 ++ e → t6 ≡ t5 ++ f → t7 ≡ t6 ++ h
@@ -25,8 +28,8 @@ pub returns-clause-ok : goal.returns-clause-ok
 returns-clause-ok c =
     let text = c.args.text.now.items in
     let epoch : c.from.result ≡ c.args.epoch = cc (c.from.ensures, c.number.ensures) in
-    let name : c.as_bytes.result.now ≡ entry_op_name c.args.op = cc (c.as_bytes.ensures.value, c.name.ensures) in
-    seven text _ _ _ _ _ _ _ (codes "{\"count\":") (decimal c.args.count) (codes ",\"epoch\":") (decimal c.args.epoch) (codes ",\"ok\":\"") (entry_op_name c.args.op) (codes "\"}\n")
+    let name : c.as_bytes.result.now ≡ op_name c.args.op = cc (c.as_bytes.ensures.value, c.name.ensures) in
+    seven text _ _ _ _ _ _ _ (codes "{\"count\":") (decimal c.args.count) (codes ",\"epoch\":") (decimal c.args.epoch) (codes ",\"ok\":\"") (op_name c.args.op) (codes "\"}\n")
     (c.put.ensures.items ∙ ap (λ l. l ++ codes "{\"count\":") c.in_ok-reserve.ensures.items)
     c.put_number.ensures.items
     c.put-2.ensures.items

@@ -1,6 +1,6 @@
 use Rattle.std.proofs.lemmas.Result.{on_ok_weaker}
 use Rattle.pgp_text.proofs.Tokens.{fields_then, object_written}
-use Rattle.pgp_text.proofs.reply.intervals.PastJsonGlobal.write.Goals as goal
+use Rattle.pgp_text.proofs.reply.parts.PastJsonGlobal.write.Goals as goal
 
 pub returns-clause-ok : goal.returns-clause-ok
 returns-clause-ok c =
