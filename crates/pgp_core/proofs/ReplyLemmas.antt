@@ -1,7 +1,7 @@
 -- What a reply says of the log.
 use Rattle.std.proofs.Common.{◌≡◌, ℕ, List, [], ◌∷◌, ◌++◌, length, Bool, true, false, Option, Some, None, option_map, Result, Ok, Err, OnErr, IsOk, inl, inr, refl, subst, sym, ap, ap₂, ◌∙◌}
 use Rattle.std.specs.Result.{result_or}
-use Rattle.std.specs.Prelude.{IfSome}
+use Rattle.std.specs.Prelude.{◌≢◌, IfSome, string_bytes}
 use Rattle.std.proofs.lemmas.Bool.{cases_Bool}
 use Rattle.pgp_ids.specs.declared.entry.Entry.{Entry}
 use Rattle.pgp_ids.specs.declared.pg_id.PgId.{PgId}
@@ -16,11 +16,15 @@ use Rattle.pgp_text.specs.declared.reply.Reply.{Reply}
 use Rattle.pgp_log.specs.Fits.{fits}
 use Rattle.pgp_log.specs.Log.{epoch_of}
 use Rattle.pgp_lines.specs.Command.{command_of}
-use Rattle.pgp_lines.specs.LineFault.{LineFault}
-use Rattle.pgp_text.specs.Reply.{reply_text}
+use Rattle.pgp_ids.specs.declared.text_fault.TextFault.{TextFault}
+use Rattle.pgp_ids.specs.declared.text_fault.TextFault.TheVariants.{LineTooLong, NotJson, NoOp, UnknownKey, BadField, Memory}
+use Rattle.pgp_lines.specs.LineFault.{LineFault, line_fault_of, line_too_long, not_json, no_op, unknown_key, bad_field}
+use Rattle.pgp_text.specs.Reply.{fault_text, reply_text}
+use Rattle.pgp_text.specs.declared.reply.Reply.TheVariants.{Refused}
+use Rattle.pgp_text.specs.declared.reply.line_refusal.LineRefusal.TheVariants.{Line}
 use Rattle.pgp_core.specs.Answer.{asked_reply, reply_of, log_after, submitted_reply, log_with, text_of, log_after_read}
 use Rattle.pgp_core.specs.Answerer.{MayAnswerBy, Replies, says_accepted}
-use Rattle.pgp_core.specs.WrittenFor.{PutsFault, PutsReply, PutsText}
+use Rattle.pgp_core.specs.WrittenFor.{PutsReply, PutsText}
 use Rattle.pgp_core.proofs.WrittenLemmas.{by-itself}
 
 -- where no entry was taken, the log stays
@@ -69,12 +73,21 @@ puts-command alone format before after line command old new reads puts = record 
   log = puts.log ∙ ap (log_after_read puts.by) (sym reads);
 }
 
-pub puts-fault : (alone : Bool) (format : Format) (log : List Entry) (line : List ℕ) (fault : Option LineFault) (old new : List ℕ) → IfSome fault (λ f. command_of format line ≡ Err f)
-    → PutsFault fault old new → PutsText alone format log log line old new
-puts-fault alone format log line None old new reads puts = absurd puts
-puts-fault alone format log line (Some fault) old new reads puts = record {
+puts-read : (alone : Bool) (format : Format) (log : List Entry) (line : List ℕ) (fault : LineFault) (old new : List ℕ) → command_of format line ≡ Err fault
+    → new ≡ old ++ (fault_text fault ++ 10 ∷ []) → PutsText alone format log log line old new
+puts-read alone format log line fault old new reads puts = record {
   by = log;
   may = by-itself alone log;
   text = puts ∙ ap (λ c. old ++ (text_of log c ++ 10 ∷ [])) (sym reads);
   log = ap (log_after_read log) (sym reads);
 }
+
+-- the refusal of a line that has this fault
+pub puts-fault : (alone : Bool) (format : Format) (log : List Entry) (line : List ℕ) (fault : TextFault) (old new : List ℕ) → IfSome (line_fault_of fault) (λ f. command_of format line ≡ Err f)
+    → fault ≢ Memory → new ≡ old ++ (reply_text (Refused (Line fault)) ++ 10 ∷ []) → PutsText alone format log log line old new
+puts-fault alone format log line LineTooLong old new reads other puts = puts-read alone format log line line_too_long old new reads puts
+puts-fault alone format log line NotJson old new reads other puts = puts-read alone format log line not_json old new reads puts
+puts-fault alone format log line NoOp old new reads other puts = puts-read alone format log line no_op old new reads puts
+puts-fault alone format log line (UnknownKey key) old new reads other puts = puts-read alone format log line (unknown_key (string_bytes key)) old new reads puts
+puts-fault alone format log line (BadField key) old new reads other puts = puts-read alone format log line (bad_field (string_bytes key)) old new reads puts
+puts-fault alone format log line Memory old new reads other puts = absurd (other refl)

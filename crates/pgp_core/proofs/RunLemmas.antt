@@ -128,6 +128,19 @@ pub after-piece : (alone : Bool) (start : RunStart) (script : Script) (input : I
 after-piece alone start script input log now bytes piece none step after =
     record { format = after.format; read = step start.bounds bytes after.read; answered = rw (whole-piece bytes piece none) after.answered }
 
+-- a piece and a line feed behind the line that is being read, which was answered
+pub after-line : (alone : Bool) (start : RunStart) (script mid : Script) (input : Input) (before after : List Entry) (was now : Option (List ℕ)) (bytes piece : List ℕ)
+    → list_any is_line_feed piece ≡ false → mid.codec.reader.format ≡ script.codec.reader.format → mid.input.left ≡ script.input.left
+    → ((bounds : Bounds) (old : Input) (bytes : List ℕ) → old.left ≡ mid.input.left → HasRead bounds old bytes → HasRead bounds input (bytes ++ (piece ++ 10 ∷ [])))
+    → ((line : List ℕ) → HoldsLine script.input.line line → (start : RunStart) (lines : List (List ℕ)) → script.codec.reader.format ≡ start.format → AreAnswered alone start lines before was script.output.pending.items
+    → AreAnswered alone start (lines ++ (line ++ piece) ∷ []) after now mid.output.pending.items)
+    → IsAfterBytes alone start script before was bytes → IsAfterBytes alone start (record mid { input = input }) after now (bytes ++ (piece ++ 10 ∷ []))
+after-line alone start script mid input before after was now bytes piece none format left step puts so_far = record {
+  format = format ∙ so_far.format;
+  read = step start.bounds script.input bytes (sym left) so_far.read;
+  answered = rw (whole-line bytes piece none) (puts (cut bytes).rest so_far.read.line start (cut bytes).whole so_far.format so_far.answered);
+}
+
 -- the line that a piece and a line feed end is the next of the lines, where the bounds allow it
 pub line_of_cut : (start : RunStart) (input : Input) (bytes piece more : List ℕ) → list_any is_line_feed piece ≡ false → 0 < input.left.lines
     → length piece < input.left.bytes → HasRead start.bounds input bytes

@@ -1,9 +1,8 @@
 -- What is written for lines, of which those up to some version are read, whoever answers their commands.
-use Rattle.std.specs.Prelude.{◌≡◌, ℕ, ◌≤◌, List, [], ◌∷◌, ◌++◌, length, Bool, false, Option, Some, None, Ok}
+use Rattle.std.specs.Prelude.{◌≡◌, ℕ, ◌≤◌, List, [], ◌∷◌, ◌++◌, length, Bool, false, Option, Some, Ok}
 use Rattle.pgp_ids.specs.declared.entry.Entry.{Entry}
 use Rattle.pgp_lines.specs.Command.{command_of}
-use Rattle.pgp_lines.specs.LineFault.{LineFault}
-use Rattle.pgp_text.specs.Reply.{reply_text, fault_text}
+use Rattle.pgp_text.specs.Reply.{reply_text}
 use Rattle.pgp_lines.specs.declared.command.Command.{Command}
 use Rattle.pgp_lines.specs.declared.command.format.Format.{Format}
 use Rattle.pgp_core.specs.Answer.{reply_of, log_after, line_text, line_log}
@@ -12,11 +11,6 @@ use Rattle.pgp_core.specs.Script.{MayMeet, answer, log_past, longest_line}
 use Rattle.pgp_core.specs.declared.want.Want.{Want}
 use Rattle.pgp_core.specs.declared.answer.NoReply.{NoReply}
 use Rattle.pgp_core.specs.declared.answer.NoReply.TheVariants.{Memory, Gone}
-
--- the answer to a line that has this fault was put behind the text
-abbrev pub PutsFault : Option LineFault → List ℕ → List ℕ → Type 0
-PutsFault None old new = ⊥
-PutsFault (Some fault) old new = new ≡ old ++ (fault_text fault ++ 10 ∷ [])
 
 -- the text of the reply to the command was put behind the text, and the log goes from `before` to `after`
 pub record PutsReply (alone : Bool) (before after : List Entry) (command : Command) (old new : List ℕ) : Type 0 where

@@ -1,27 +1,26 @@
 //! The answer to a line, by the reply to its command, whoever gives that.
 
-ghost use Rattle.std.specs.Prelude.{◌≡◌, ◌≢◌, ◌≤◌, ◌+◌, ◌++◌, ◌∷◌, [], Bool, List, length, take, option_copied, option_map, vec_len, vec_capacity, true, false, IsOk, IfOk, IfErr, OnOk, OnErr};
+ghost use Rattle.std.specs.Prelude.{◌≡◌, ◌≤◌, ◌+◌, ◌++◌, ◌∷◌, [], Bool, List, length, take, option_copied, option_map, vec_len, vec_capacity, true, false, IsOk, IfOk, IfErr, OnOk, OnErr};
 ghost use Rattle.pgp_ids.specs.declared.entry.Entry.{Entry as AnyEntry};
 ghost use Rattle.pgp_group.specs.Touched.{view_at};
 ghost use Rattle.pgp_lines.specs.Command.{HasFewEpochs};
 ghost use Rattle.pgp_lines.specs.declared.command.Command.TheVariants.{Ask, Locate, Submit};
-ghost use Rattle.pgp_lines.specs.LineFault.{line_fault_of};
 ghost use Rattle.pgp_text.specs.Reply.{reply_text};
 ghost use Rattle.pgp_core.specs.Answer.{asked_reply, traced_reply};
 ghost use Rattle.pgp_core.specs.Answerer.{MayAnswerBy, Replies, says_accepted};
 ghost use Rattle.pgp_core.specs.Lines.{is_blank};
 ghost use Rattle.pgp_core.specs.Script.{longest_line};
 ghost use Rattle.pgp_core.specs.Wants.{LacksReply, MayFindNone};
-ghost use Rattle.pgp_core.specs.WrittenFor.{PutsFault, PutsReply, PutsText, MayLack};
+ghost use Rattle.pgp_core.specs.WrittenFor.{PutsReply, PutsText, MayLack};
 
 use super::accepted::{LONGEST_ACCEPTED, put_accepted};
 use super::codec::Codec;
-use super::history::history;
 use super::want::Want;
 use pgp_code::AnyCode;
 use pgp_ids::{
     AskRefusal, Entry, Epoch, EpochState, ObjectName, PgId, PoolId, PoolKind, Seq, TextFault, View,
 };
+use pgp_interval::Intervals;
 use pgp_lines::{Command, MAX_EPOCHS};
 use pgp_text::{LineRefusal, Reply, ReplyWriter};
 use std::alloc::{AllocError, Global};
@@ -103,7 +102,14 @@ pub fn traced_reply(
             past: Seq::new(alloc),
         });
     };
-    let history = history(alloc, AnyCode::of_pool(kind), opening, states)?;
+    let code = AnyCode::of_pool(kind);
+    let mut history = Intervals::begin(alloc, code, Epoch::new(1), opening.members);
+    let mut facts = opening.facts;
+    for state in states {
+        let epoch = Epoch::new(history.last().number() + 1);
+        history.step(epoch, state.members, facts)?;
+        facts = state.facts;
+    }
     let (first, _) = history.current();
     Ok(Reply::Traced {
         first,
@@ -132,7 +138,11 @@ pub fn answer_line<A: Answerer>(
     match codec.reader.read(alloc, line) {
         Ok(command) => answer_command(alloc, &mut codec.writer, command, answerer, text),
         Err(TextFault::Memory) => Err(NoReply::Memory(Want::Line)),
-        Err(fault) => put_fault(alloc, &mut codec.writer, fault, text),
+        Err(fault) => {
+            let reply = Reply::Refused(LineRefusal::Line(fault));
+            put_reply(alloc, &mut codec.writer, &reply, text)?;
+            Ok(())
+        }
     }
 }
 
@@ -184,22 +194,6 @@ fn answer_entry<A: Answerer>(
         .or(Err(NoReply::Memory(Want::Entry)))?;
     let reply = answerer.reply_to_entry(entry)?;
     put_reply(alloc, writer, &reply, text).or(Err(NoReply::Memory(Want::Entry)))
-}
-
-/// Puts the answer to a line that has this fault behind the text, with a line feed.
-fn put_fault(
-    alloc: Global,
-    writer: &mut ReplyWriter,
-    fault: TextFault,
-    text: &mut Vec<u8>,
-) -> Result<(), NoReply>
-    requires { fault ≢ TextFault.Memory }
-    ensures ok { OnOk result (PutsFault (line_fault_of fault) text.old.items text.new.items) }
-    ensures lacks { IfErr result (λ why. why ≡ NoReply.Memory Want.Line) }
-    ensures err { OnErr result (text.new.items ≡ text.old.items) }
-{
-    let reply = Reply::Refused(LineRefusal::Line(fault));
-    put_reply(alloc, writer, &reply, text).or(Err(NoReply::Memory(Want::Line)))
 }
 
 /// Puts the reply to a question about a group behind the text, with a line feed, written from where the view is kept. Count and

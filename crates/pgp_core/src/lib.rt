@@ -9,7 +9,6 @@ mod answer;
 mod codec;
 mod counts;
 mod fault;
-mod history;
 mod input;
 pub mod laws;
 mod line;

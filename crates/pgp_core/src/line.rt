@@ -112,31 +112,13 @@ impl LineBuffer {
         ensures text { result ≡ None → text.new.items ≡ text.old.items }
         ensures format { codec.new.reader.format ≡ codec.old.reader.format }
     {
-        if self.started || piece.len() > LONGEST_LINE {
-            self.add(piece);
-            return self.answer_kept(alloc, codec, answerer, text);
+        if !self.started && piece.len() <= LONGEST_LINE {
+            if all_blank(piece) {
+                return Some(&[]);
+            }
+            return answer_bytes(alloc, codec, piece, answerer, text);
         }
-        if all_blank(piece) {
-            return Some(&[]);
-        }
-        answer_bytes(alloc, codec, piece, answerer, text)
-    }
-
-    /// Puts the answer to the line, which has ended, behind the text, by what is kept of it, and gives what is still to be written
-    /// of it. Where nobody answers the line any more, the text stays.
-    fn answer_kept<A: Answerer>(
-        &self,
-        alloc: Global,
-        codec: &mut Codec,
-        answerer: &mut A,
-        text: &mut Vec<u8>,
-    ) -> Option<&'static [u8]>
-        ensures put { IfSome result (λ rest. (line : List ℕ) → HoldsLine self.now line
-            → PutsLine A.alone codec.old.reader.format (A.log answerer.old) (A.log answerer.new) line text.old.items text.new.items rest.now) }
-        ensures left { result ≡ None → (line : List ℕ) → HoldsLine self.now line → IsLeft A.alone codec.old.reader.format line }
-        ensures text { result ≡ None → text.new.items ≡ text.old.items }
-        ensures format { codec.new.reader.format ≡ codec.old.reader.format }
-    {
+        self.add(piece);
         if self.blank {
             return Some(&[]);
         }

@@ -7,7 +7,7 @@ ghost use Rattle.pgp_core.specs.Wants.{MayFindNone, MayLackEntry, TakesMemory};
 
 use super::line::{LONGEST_LINE, all_blank};
 use super::log::Log;
-use pgp_ids::{AskRefusal, Entry, LocateRefusal, PgId, PoolId, TextFault};
+use pgp_ids::{AskRefusal, LocateRefusal, TextFault};
 use pgp_lines::{Command, LineReader};
 use pgp_text::LineRefusal;
 use std::alloc::{AllocError, Global};
@@ -64,44 +64,20 @@ fn obey(log: &mut Log, command: Command) -> Result<LineOutcome, AllocError>
     ensures memory { OnErr result (MayLackEntry log.old command) }
 {
     match command {
-        Command::Submit(entry) => entry_outcome(log, entry),
-        Command::Ask(pg) => Ok(question_outcome(log, pg)),
-        Command::Locate { pool, .. } => Ok(locate_outcome(log, pool)),
+        Command::Submit(entry) => match log.take_if_fits(entry)? {
+            None => Ok(LineOutcome::Taken),
+            Some(refusal) => Ok(LineOutcome::Refused(LineRefusal::Entry(refusal))),
+        },
+        Command::Ask(pg) => if log.map().has_group(&pg) {
+            Ok(LineOutcome::Asked)
+        } else {
+            Ok(LineOutcome::Refused(LineRefusal::Ask(AskRefusal::UnknownGroup)))
+        },
+        // It has an answer where the map has the pool, whatever the name is.
+        Command::Locate { pool, .. } => match log.map().pool(pool) {
+            Some(_) => Ok(LineOutcome::Asked),
+            None => Ok(LineOutcome::Refused(LineRefusal::Locate(LocateRefusal::UnknownPool))),
+        },
         Command::Trace { .. } => Ok(LineOutcome::Asked),
-    }
-}
-
-/// Takes the entry if it fits, and says what it is to the log.
-fn entry_outcome(log: &mut Log, entry: Entry) -> Result<LineOutcome, AllocError>
-    ensures outcome { IfOk result (IsOutcomeOf log.old (Submit entry)) }
-    ensures log { IfOk result (λ _. log.new ≡ with_added log.old (taken_from log.old (Submit entry))) }
-    ensures kept { OnErr result (log.new ≡ log.old) }
-    ensures memory { OnErr result (MayFindNone log.old (Submit entry)) }
-{
-    match log.take_if_fits(entry)? {
-        None => Ok(LineOutcome::Taken),
-        Some(refusal) => Ok(LineOutcome::Refused(LineRefusal::Entry(refusal))),
-    }
-}
-
-/// What a question about the group is to the log.
-fn question_outcome(log: &Log, pg: PgId) -> LineOutcome
-    ensures { IsOutcomeOf log.now (Ask pg) result }
-{
-    if log.map().has_group(&pg) {
-        LineOutcome::Asked
-    } else {
-        LineOutcome::Refused(LineRefusal::Ask(AskRefusal::UnknownGroup))
-    }
-}
-
-/// What a question where an object of the pool lies is to the log, whatever its name is. It has an answer where the map has the
-/// pool.
-fn locate_outcome(log: &Log, id: PoolId) -> LineOutcome
-    ensures { (name : List ℕ) → IsOutcomeOf log.now (Locate id name) result }
-{
-    match log.map().pool(id) {
-        Some(_) => LineOutcome::Asked,
-        None => LineOutcome::Refused(LineRefusal::Locate(LocateRefusal::UnknownPool)),
     }
 }

@@ -1,14 +1,12 @@
 //! Answering a script: its lines are read, and the answer to each is written.
 
-ghost use Rattle.std.specs.Prelude.{◌≡◌, ◌≢◌, ℕ, ◌+◌, ◌<◌, List, [], ◌∷◌, ◌++◌, Bool, false, true, Option, OnOk, IfOk, IfErr, length};
-ghost use Rattle.std.specs.List.{list_any};
+ghost use Rattle.std.specs.Prelude.{◌≡◌, ◌≢◌, ℕ, ◌+◌, ◌<◌, List, [], ◌∷◌, ◌++◌, Bool, true, Option, OnOk, IfOk, IfErr, length};
 ghost use Rattle.std.specs.Io.KnownBytes.{IsAtEnd};
 ghost use Rattle.pgp_ids.specs.declared.entry.Entry.{Entry};
-ghost use Rattle.pgp_core.specs.Lines.{is_line_feed};
 ghost use Rattle.pgp_core.specs.Line.{HoldsLine};
-ghost use Rattle.pgp_core.specs.Account.{account, ReadsFailed, WritesFailed, WriteFailedBy};
+ghost use Rattle.pgp_core.specs.Account.{account, ReadsFailed, WritesFailed};
 ghost use Rattle.pgp_core.specs.Run.{AllAnswered, Stopped, bounds_of, script_bounds};
-ghost use Rattle.pgp_core.specs.Telling.{AreAnswered, RunStart, IsAfterBytes, IsAnsweredWhole, IsStopped, StoppedAtLast, WentBy, StopsIn, Reads, Stops, RanToEnd, WasStopped, run_start};
+ghost use Rattle.pgp_core.specs.Telling.{AreAnswered, RunStart, IsAfterBytes, IsAnsweredWhole, IsStopped, StoppedAtLast, StopsIn, Reads, Stops, RanToEnd, WasStopped, run_start};
 
 use super::answer::Answerer;
 use super::codec::Codec;
@@ -79,47 +77,6 @@ impl Script {
         Ok(())
     }
 
-    /// Writes what is pending, and says which fault ends the script: that of the write comes first.
-    fn stop_reading<W: Sink>(&mut self, writer: &mut W) -> ScriptFault
-        ensures went { WentBy result (W.state writer.old).contents (W.state writer.new).contents self.old.output.pending.items }
-        ensures not_gone { result ≢ ScriptFault.Gone }
-        ensures failed { WriteFailedBy result (W.state writer.old).failed (W.state writer.new).failed }
-        ensures passed_on { result ≢ ScriptFault.Write → (W.state writer.new).passed_on ≡ true }
-    {
-        match self.output.flush(writer) {
-            Ok(()) => ScriptFault::Read,
-            Err(_) => ScriptFault::Write,
-        }
-    }
-
-    /// Takes the piece that ends the line, and the line feed behind it.
-    fn end_line<A: Answerer, W: Sink>(
-        &mut self,
-        alloc: Global,
-        piece: &[u8],
-        answerer: &mut A,
-        writer: &mut W,
-    ) -> Result<(), ScriptFault>
-        requires one_line { list_any is_line_feed piece.now ≡ false }
-        requires room { 0 < self.old.input.left.lines }
-        requires fits { length piece.now < self.old.input.left.bytes }
-        ensures left { OnOk result (self.new.input.left.bytes + (length piece.now + 1) ≡ self.old.input.left.bytes) }
-        ensures ok { OnOk result ((start : RunStart) (bytes : List ℕ)
-            → IsAfterBytes A.alone start self.old (A.log answerer.old) (W.state writer.old).contents bytes
-            → IsAfterBytes A.alone start self.new (A.log answerer.new) (W.state writer.new).contents (bytes ++ (piece.now ++ 10 ∷ []))) }
-        ensures err { IfErr result (λ fault. (start : RunStart) (bytes more : List ℕ)
-            → IsAfterBytes A.alone start self.old (A.log answerer.old) (W.state writer.old).contents bytes
-            → StopsIn A.alone start fault (W.state writer.new).contents (bytes ++ (piece.now ++ 10 ∷ more))) }
-        ensures failed { WritesFailed result (W.state writer.old).failed (W.state writer.new).failed }
-        ensures passed_on { IfErr result (λ fault. fault ≢ ScriptFault.Write → (W.state writer.new).passed_on ≡ true) }
-    {
-        self.put_answer(alloc, piece, answerer, writer)?;
-        self.input.end_line(piece);
-        Ok(())
-    }
-}
-
-impl Script {
     /// Takes bytes that were read, as far as the bounds allow.
     fn take<A: Answerer, W: Sink>(
         &mut self,
@@ -141,12 +98,14 @@ impl Script {
         let mut rest = chunk;
         while !rest.is_empty() {
             if self.input.is_full() {
-                return Err(self.stop_reading(writer));
+                self.output.flush(writer)?;
+                return Err(ScriptFault::Read);
             }
             let allowed = self.input.allowed(rest);
             match split_line(allowed) {
                 Some((piece, _)) => {
-                    self.end_line(alloc, piece, answerer, writer)?;
+                    self.put_answer(alloc, piece, answerer, writer)?;
+                    self.input.end_line(piece);
                     rest = &rest[piece.len() + 1..];
                 }
                 None => {
@@ -156,29 +115,6 @@ impl Script {
             }
         }
         Ok(())
-    }
-
-    /// Answers a last line that no line feed ends.
-    fn put_last<A: Answerer, W: Sink>(
-        &mut self,
-        alloc: Global,
-        answerer: &mut A,
-        writer: &mut W,
-    ) -> Result<(), ScriptFault>
-        ensures ok { OnOk result ((start : RunStart) (bytes : List ℕ)
-            → IsAfterBytes A.alone start self.old (A.log answerer.old) (W.state writer.old).contents bytes
-            → IsAnsweredWhole A.alone start (A.log answerer.new) (W.state writer.new).contents self.new.output.pending.items bytes) }
-        ensures err { IfErr result (λ fault. (start : RunStart) (bytes : List ℕ)
-            → IsAfterBytes A.alone start self.old (A.log answerer.old) (W.state writer.old).contents bytes
-            → StoppedAtLast A.alone start fault (W.state writer.new).contents bytes) }
-        ensures failed { WritesFailed result (W.state writer.old).failed (W.state writer.new).failed }
-        ensures passed_on { IfErr result (λ fault. fault ≢ ScriptFault.Write → (W.state writer.new).passed_on ≡ true) }
-    {
-        if self.input.line.started {
-            self.put_answer(alloc, &[], answerer, writer)
-        } else {
-            Ok(())
-        }
     }
 
     /// Answers a last line that no line feed ends, and writes what is pending.
@@ -197,13 +133,13 @@ impl Script {
         ensures failed { WritesFailed result (W.state writer.old).failed (W.state writer.new).failed }
         ensures passed_on { result ≢ Err ScriptFault.Write → (W.state writer.new).passed_on ≡ true }
     {
-        self.put_last(alloc, answerer, writer)?;
+        if self.input.line.started {
+            self.put_answer(alloc, &[], answerer, writer)?;
+        }
         self.output.flush(writer)?;
         Ok(())
     }
-}
 
-impl Script {
     /// Writes what is pending, reads once, and answers the lines that end in what was read. Gives how many bytes that was:
     /// none only at the end.
     fn read_on<A: Answerer, R: Source, W: Sink>(

@@ -51,41 +51,23 @@ pub fn read_whole<R: Source>(
 {
     let mut chunk = [0u8; CHUNK];
     let mut script = Vec::new(alloc);
-    while read_more(&mut chunk, &mut script, reader, bounds)? != 0 {}
+    loop {
+        let Ok(count) = reader.read(&mut chunk) else {
+            return Err(WholeFault::Read);
+        };
+        if count == 0 {
+            break;
+        }
+        if count as u64 > bounds.bytes - script.len() as u64 {
+            return Err(WholeFault::TooLarge);
+        }
+        script.extend_from_slice(&chunk[..count])?;
+    }
     if has_lines_within(script.as_slice(), bounds.lines) {
         Ok(script)
     } else {
         Err(WholeFault::TooLarge)
     }
-}
-
-/// Reads once, and puts what was read behind the bytes before. Gives how many bytes that was: none only at the end.
-fn read_more<R: Source>(
-    chunk: &mut [u8],
-    script: &mut Vec<u8>,
-    reader: &mut R,
-    bounds: Bounds,
-) -> Result<usize, WholeFault>
-    requires few { length script.old.items ≤ bounds.bytes }
-    ensures few { OnOk result (length script.new.items ≤ bounds.bytes) }
-    ensures more { IfOk result (λ count. length script.new.items ≡ length script.old.items + count) }
-    ensures bytes { OnOk result ((from : Option (List ℕ)) → Consumes from (R.state reader.old).remaining script.old.items
-        → Consumes from (R.state reader.new).remaining script.new.items) }
-    ensures end { IfOk result (λ count. count ≡ 0 → 0 < length chunk.old → IsAtEnd (R.state reader.new).remaining) }
-    ensures read { result ≡ Err WholeFault.Read → (R.state reader.new).failed ≡ true }
-    ensures large { result ≡ Err WholeFault.TooLarge → (from : Option (List ℕ)) → Consumes from (R.state reader.old).remaining script.old.items
-        → GivesTooMuch bounds from (R.state reader.new).remaining }
-    ensures kept { result ≢ Err WholeFault.Read → (R.state reader.new).failed ≡ (R.state reader.old).failed }
-{
-    let count = match reader.read(chunk) {
-        Ok(count) => count,
-        Err(_) => return Err(WholeFault::Read),
-    };
-    if count as u64 > bounds.bytes - script.len() as u64 {
-        return Err(WholeFault::TooLarge);
-    }
-    script.extend_from_slice(&chunk[..count])?;
-    Ok(count)
 }
 
 /// Whether a script has at most this many lines.

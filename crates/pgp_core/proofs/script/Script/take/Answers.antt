@@ -1,9 +1,25 @@
-use Rattle.std.proofs.Common.{◌≡◌, ◌<◌, [], ◌∷◌, ◌++◌, ◌∙◌, ap, length, subst, sym, append-nil, arith, length-append, length-take}
+use Rattle.std.proofs.Common.{◌≡◌, ◌+◌, ◌<◌, [], ◌∷◌, ◌++◌, ◌∙◌, ap, drop, length, subst, sym, append-nil, arith, length-append, length-take, rules}
 use Rattle.std.proofs.lemmas.Bool.Decides.{nat_tests}
 use Rattle.std.proofs.lemmas.List.{nil_from_length, take_rest}
-use Rattle.pgp_core.specs.Telling.{IsAfterBytes, StopsIn}
-use Rattle.pgp_core.proofs.RunLemmas.{after-piece, full, line-front, passed_on, piece-front, regroup, regroup_line, stopped-after, taken-more}
+use Rattle.pgp_core.specs.Lines.{cut}
+use Rattle.pgp_core.specs.declared.fault.ScriptFault.TheVariants.{Read, Write}
+use Rattle.pgp_core.specs.declared.input.Bounds.{Bounds}
+use Rattle.pgp_core.specs.Telling.{IsAfterBytes, IsStopped, StopsIn}
+use Rattle.pgp_core.proofs.RunLemmas.{after-line, after-piece, full, line-front, line_of_cut, passed_on, piece-front, regroup, regroup_line, stopped-after, taken-more}
 use Rattle.pgp_core.proofs.script.Script.take.Goals as goal
+
+pub returns-in_err-flush-clause-err : goal.returns-in_err-flush-clause-err
+returns-in_err-flush-clause-err g c =
+    passed_on _ _ _ _ c.from_residual.ensures.1
+    (λ start bytes so_far.
+    let taken = c.loop-rest.invariant.taken in
+    let rest = c.loop-rest.rest.now in
+    subst (StopsIn g.A.Answerer.alone start Write _) (regroup bytes taken.done rest c.args.chunk.now taken.whole)
+    (record {
+      stopped = stopped-after Write g.A.Answerer.alone start c.loop-rest.self _ _ _ (bytes ++ taken.done) rest (taken.goes start bytes so_far) (λ gone. absurd cc)
+          c.in_err-flush.ensures.err (λ read. absurd cc);
+      beyond = λ read. absurd cc;
+    }))
 
 pub returns-then-is_full-clause-err : goal.returns-then-is_full-clause-err
 returns-then-is_full-clause-err g c start bytes so_far =
@@ -12,34 +28,49 @@ returns-then-is_full-clause-err g c start bytes so_far =
     let rest = c.loop-rest.rest.now in
     let some : 0 < length rest = grind (arith, nat_tests) in
     let ends = full start c.loop-rest.self.input (bytes ++ taken.done) rest here.read (c.is_full.ensures.0 c.if-is_full.true) some in
-    subst (StopsIn g.A.Answerer.alone start c.stop_reading.result _) (regroup bytes taken.done rest c.args.chunk.now taken.whole)
+    subst (StopsIn g.A.Answerer.alone start Read _) (regroup bytes taken.done rest c.args.chunk.now taken.whole)
     (record {
-      stopped = stopped-after c.stop_reading.result g.A.Answerer.alone start c.loop-rest.self _ _ _ (bytes ++ taken.done) rest here c.stop_reading.ensures.not_gone
-          c.stop_reading.ensures.went (λ _. ends.0);
+      stopped = stopped-after Read g.A.Answerer.alone start c.loop-rest.self _ _ _ (bytes ++ taken.done) rest here (λ gone. absurd cc) c.in_ok-flush.ensures.ok (λ _. ends.0);
       beyond = λ _. ends.1;
     })
 
-pub returns-in_err-end_line-in-Some-clause-err : goal.returns-in_err-end_line-in-Some-clause-err
-returns-in_err-end_line-in-Some-clause-err g c =
-    passed_on _ _ _ _ c.from_residual.ensures.1
+pub returns-in_err-put_answer-in-Some-clause-err : goal.returns-in_err-put_answer-in-Some-clause-err
+returns-in_err-put_answer-in-Some-clause-err g c =
+    passed_on _ _ _ _ c.from_residual-in_err-put_answer-in-Some.ensures.1
     (λ start bytes so_far.
     let taken = c.loop-rest.invariant.taken in
-    let parts = line-front _ c.loop-rest.rest.now c.allowed-allowed.result.now c.in-Some.piece.now _ c.allowed-allowed.ensures c.in-Some.ensures.whole in
-    subst (StopsIn g.A.Answerer.alone start c.in_err-end_line-in-Some.field-0.0 (g.W.Sink.state c.end_line.new.writer).contents)
-    (regroup_line bytes taken.done c.loop-rest.rest.now c.args.chunk.now c.in-Some.piece.now _ taken.whole parts)
-    (c.in_err-end_line-in-Some.ensures.err start (bytes ++ taken.done) _ (taken.goes start bytes so_far)))
+    let here = taken.goes start bytes so_far in
+    let piece = c.in-Some.piece.now in
+    let rest = c.loop-rest.rest.now in
+    let read = bytes ++ taken.done in
+    let parts = line-front _ rest c.allowed-allowed.result.now piece _ c.allowed-allowed.ensures c.in-Some.ensures.whole in
+    let room : 0 < c.loop-rest.self.input.left.lines = search rules in
+    let fits : length piece < c.loop-rest.self.input.left.bytes =
+    omega (arith, ap length c.in-Some.ensures.whole, length-append piece (10 ∷ c.in-Some.field-0-1.now), ap length c.allowed-allowed.ensures, length-take c.loop-rest.self.input.left.bytes rest) in
+    let stop = c.in_err-put_answer-in-Some.ensures.err (cut read).rest here.read.line start (cut read).whole _ here.format here.answered in
+    subst (StopsIn g.A.Answerer.alone start _ _) (regroup_line bytes taken.done rest c.args.chunk.now piece _ taken.whole parts)
+    (record {
+      stopped = subst (IsStopped g.A.Answerer.alone start _ _)
+          (sym (line_of_cut start c.loop-rest.self.input read piece (drop (length piece + 1) rest) c.in-Some.ensures.one_line room fits here.read)) stop.1;
+      beyond = λ read. absurd (stop.0 read);
+    }))
 
 pub loop-rest-preserved-in-Some : goal.loop-rest-preserved-in-Some
 loop-rest-preserved-in-Some g c =
     let invariant = c.loop-rest.invariant in
     let piece = c.in-Some.piece.now in
-    let parts = line-front _ c.loop-rest.rest.now c.allowed-allowed.result.now piece _ c.allowed-allowed.ensures c.in-Some.ensures.whole in
-    let after_end = c.in_ok-end_line-in-Some.ensures.left in
+    let rest = c.loop-rest.rest.now in
+    let put = c.in_ok-put_answer-in-Some.ensures in
+    let parts = line-front _ rest c.allowed-allowed.result.now piece _ c.allowed-allowed.ensures c.in-Some.ensures.whole in
+    let after_end = c.end_line.ensures.left in
+    let same : c.put_answer.new.self.input.left.bytes ≡ c.loop-rest.self.input.left.bytes = ap (λ (left : Bounds). left.bytes) put.left in
     let long = ap length parts ∙ length-append (piece ++ 10 ∷ []) _ in
+    let few = length-take c.loop-rest.self.input.left.bytes rest in
     record {
-      left = omega (arith, long, length-append piece (10 ∷ []), after_end, invariant.left);
-      kept = c.in_ok-end_line-in-Some.ensures.failed ∙ invariant.kept;
-      taken = rw take_rest (taken-more _ _ _ _ _ _ _ _ _ _ _ _ (piece ++ 10 ∷ []) _ invariant.taken parts c.in_ok-end_line-in-Some.ensures.ok);
+      left = omega (arith, long, length-append piece (10 ∷ []), after_end, same, few, ap length c.allowed-allowed.ensures, ap length c.in-Some.ensures.whole, length-append piece (10 ∷ c.in-Some.field-0-1.now), invariant.left);
+      kept = put.failed ∙ invariant.kept;
+      taken = rw take_rest (taken-more _ _ _ _ _ _ _ _ _ _ _ _ (piece ++ 10 ∷ []) _ invariant.taken parts
+          (λ start bytes. after-line g.A.Answerer.alone start c.loop-rest.self c.put_answer.new.self c.end_line.new.self _ _ _ _ bytes piece c.in-Some.ensures.one_line put.format put.left c.end_line.ensures.read put.ok));
     }
 
 pub loop-rest-preserved : goal.loop-rest-preserved
