@@ -1,5 +1,5 @@
 -- The groups that the only shard of a log gives are those of the log.
-use Rattle.std.proofs.Common.{◌≡◌, ℕ, ◌+◌, ◌%◌, List, true, ap, ap₂, ◌∙◌, eq-eqb, subst}
+use Rattle.std.proofs.Common.{◌≡◌, ℕ, ◌+◌, ◌%◌, List, true, ap₂, ◌∙◌, eq-eqb, subst}
 use Rattle.std.proofs.Math.Nat.{mod-one}
 use Rattle.std.proofs.lemmas.Bool.{and_parts}
 use Rattle.pgp_ids.specs.declared.entry.Entry.{Entry}
