@@ -37,14 +37,18 @@ waits_line naming blocking = line (
     ∷ codes ":"
     ∷ [])
 
--- the acting members on these devices
-abbrev pub members_on : Bool → List (Option ℕ) → List ℕ → List Member
-members_on by_place acting osds = filter (λ member. holds osds member.osd) (members_of by_place acting)
-
 -- its members that are down
-unfoldable pub down_line : Naming → List Member → Text
-down_line naming members =
-    line (codes "  " ∷ listed (map (member_name naming) members) ∷ codes " " ∷ are (length members) ∷ codes " down" ∷ [])
+abbrev pub down_members : Bool → IntervalNow → List Member
+down_members by_place interval = filter (λ member. holds interval.down member.osd) (members_of by_place interval.acting)
+
+unfoldable pub down_line : Naming → IntervalNow → Text
+down_line naming interval = line (
+    codes "  "
+    ∷ listed (map (member_name naming) (down_members naming.by_place interval))
+    ∷ codes " "
+    ∷ are (length (down_members naming.by_place interval))
+    ∷ codes " down"
+    ∷ [])
 
 -- what has become of others of its devices, if of any
 unfoldable pub fate_line : Text → List ℕ → Text
@@ -52,18 +56,13 @@ fate_line fate osds =
     if length osds == 0 then []
     else line (codes "  " ∷ device_names osds ∷ codes " " ∷ plural (length osds) (codes "was") (codes "were") ∷ codes " " ∷ fate ∷ [])
 
-unfoldable pub fate_lines : IntervalNow → Text
-fate_lines interval = joined (
-    fate_line (codes "declared lost before it began, which doesn't count for it") interval.lost_before
-    ∷ fate_line (codes "declared lost, and no longer waited for") interval.lost
-    ∷ fate_line (codes "destroyed, and can't be waited for") interval.gone
-    ∷ [])
-
 -- an interval that blocks
 unfoldable pub interval_lines : Naming → Blocking → Text
 interval_lines naming blocking = joined (
     waits_line naming blocking
-    ∷ down_line naming (members_on naming.by_place blocking.interval.acting blocking.interval.down)
-    ∷ fate_lines blocking.interval
+    ∷ down_line naming blocking.interval
+    ∷ fate_line (codes "declared lost before it began, which doesn't count for it") blocking.interval.lost_before
+    ∷ fate_line (codes "declared lost, and no longer waited for") blocking.interval.lost
+    ∷ fate_line (codes "destroyed, and can't be waited for") blocking.interval.gone
     ∷ read_write_line naming blocking.clean (first_osd blocking.interval.acting)
     ∷ [])

@@ -53,19 +53,30 @@ abbrev pub then_line : Option Then → Text
 then_line None = codes "    what it is then isn't known: the log takes no more\n"
 then_line (Some after) = line (codes "    then " ∷ verdict_name after.verdict ∷ codes ": " ∷ string_bytes after.says ∷ [])
 
--- that it goes on without the writes of an interval
-unfoldable pub without_part : Naming → IntervalNow → Text
-without_part naming interval =
-    joined (codes "    it goes on without what was written in " ∷ interval_epochs naming.offset interval ∷ codes ", at least: " ∷ [])
+-- that it goes on without the writes of an interval, and which devices that are down may have them
+unfoldable pub away_line : Naming → IntervalNow → Text
+away_line naming interval = line (
+    codes "    it goes on without what was written in "
+    ∷ interval_epochs naming.offset interval
+    ∷ codes ", at least: "
+    ∷ device_names interval.down
+    ∷ codes ", which "
+    ∷ are (length interval.down)
+    ∷ codes " down, may have it"
+    ∷ [])
 
--- which devices that are down may have it
-unfoldable pub away_part : List ℕ → Text
-away_part osds = line (device_names osds ∷ codes ", which " ∷ are (length osds) ∷ codes " down, may have it" ∷ [])
+-- and that no devices have them
+unfoldable pub gone_line : Naming → IntervalNow → Text
+gone_line naming interval = line (
+    codes "    it goes on without what was written in "
+    ∷ interval_epochs naming.offset interval
+    ∷ codes ", at least: too few of the devices that took it are left"
+    ∷ [])
 
 abbrev pub price_line_by : Writes → Naming → IntervalNow → Text
 price_line_by Readable naming interval = []
-price_line_by Away naming interval = without_part naming interval ++ away_part interval.down
-price_line_by Gone naming interval = without_part naming interval ++ codes "too few of the devices that took it are left\n"
+price_line_by Away naming interval = away_line naming interval
+price_line_by Gone naming interval = gone_line naming interval
 
 -- what it costs by an interval
 abbrev pub price_line : Naming → IntervalNow → Text

@@ -25,11 +25,9 @@ heading naming explanation = line (
     ∷ sentence_of naming explanation
     ∷ [])
 
--- when the group last served, if it is known to have done so; epoch 0 stands for never
-unfoldable pub served_line : ℕ → Text
-served_line les =
-    if les == 0 then line (codes "It is not known to have served." ∷ [])
-    else line (codes "It is known to have last begun to serve in epoch " ∷ decimal les ∷ codes "." ∷ [])
+-- the epoch in which a group last served, with this before and that behind it; epoch 0 stands for never, of which this is said
+unfoldable pub les_part : (never before : Text) → ℕ → (after : Text) → Text
+les_part never before les after = if les == 0 then never else joined (before ∷ decimal les ∷ after ∷ [])
 
 -- who serves the group, and since when
 unfoldable pub acting_line : Naming → Explanation → Text
@@ -54,16 +52,12 @@ place_lines naming explanation = joined (
     ∷ codes "up     "
     ∷ places_name explanation.view.up
     ∷ codes "\n"
-    ∷ served_line (cluster_epoch naming.offset explanation.view.les)
+    ∷ les_part
+    (codes "It is not known to have served.\n")
+    (codes "It is known to have last begun to serve in epoch ")
+    (cluster_epoch naming.offset explanation.view.les)
+    (codes ".\n")
     ∷ [])
-
--- when the sender of an info last served
-unfoldable pub has_served : ℕ → Text
-has_served les = if les == 0 then codes ", has not served" else joined (codes ", began to serve in epoch " ∷ decimal les ∷ [])
-
--- when the sender of an info knows that the group last served
-unfoldable pub knows_of : ℕ → Text
-knows_of les = if les == 0 then [] else joined (codes ", knows of epoch " ∷ decimal les ∷ [])
 
 -- who sent an info, when, and how far the copy goes
 unfoldable pub sender_part : Naming → Info → Text
@@ -77,30 +71,25 @@ sender_part naming info = joined (
     ∷ version_name naming.offset info.last_update
     ∷ [])
 
--- what an info says
+-- what an info says: the same, when its sender last served, and when it knows that the group last did
 unfoldable pub info_words : Naming → Info → Text
 info_words naming info = joined (
     sender_part naming info
-    ∷ has_served (cluster_epoch naming.offset info.les)
-    ∷ knows_of (cluster_epoch naming.offset info.history_les)
+    ∷ les_part (codes ", has not served") (codes ", began to serve in epoch ") (cluster_epoch naming.offset info.les) []
+    ∷ les_part [] (codes ", knows of epoch ") (cluster_epoch naming.offset info.history_les) []
     ∷ [])
 
 -- a heading, and a line for each of these; where there are none, this alone
 unfoldable pub list_lines : {A : Type 0} → Text → (A → Text) → Text → List A → Text
 list_lines heading words none xs = if length xs == 0 then none else joined (heading ∷ text_of_each (codes "\n  ") words xs ∷ codes "\n" ∷ [])
 
--- whom it has heard, and whom it has to hear yet
-unfoldable pub hearing_lines : Naming → Explanation → Text
-hearing_lines naming explanation =
-    list_lines (codes "\nHeard:") (info_words naming) (codes "\nHeard:\n  nobody\n") explanation.reasons.heard
-    ++ list_lines (codes "Not heard:") (member_name naming) [] (unheard_of explanation)
-
 -- what is said of a group, with names of this kind
 unfoldable pub advice_lines : Naming → Advice → Text
 advice_lines naming advice = joined (
     heading naming advice.explanation
     ∷ place_lines naming advice.explanation
-    ∷ hearing_lines naming advice.explanation
+    ∷ list_lines (codes "\nHeard:") (info_words naming) (codes "\nHeard:\n  nobody\n") advice.explanation.reasons.heard
+    ∷ list_lines (codes "Not heard:") (member_name naming) [] (unheard_of advice.explanation)
     ∷ text_of_each (codes "\n") (interval_lines naming) advice.explanation.reasons.blocking
     ∷ ways_lines naming advice
     ∷ resort_lines naming advice.last_resort

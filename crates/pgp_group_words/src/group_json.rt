@@ -3,7 +3,7 @@
 ghost use Rattle.std.specs.Prelude.{◌≡◌, ◌++◌, ◌∷◌, [], IfOk, OnOk, string_bytes};
 ghost use Rattle.json.specs.Print.{print};
 ghost use Rattle.pgp_text.specs.Written.{fields_tokens};
-ghost use Rattle.pgp_group_words.specs.Json.{advice_json, place_fields, resort_fields, verdict_fields};
+ghost use Rattle.pgp_group_words.specs.Json.{advice_json, place_fields, resort_fields};
 
 use super::advice::Advice;
 use super::explanation::Explanation;
@@ -20,11 +20,21 @@ impl Advice {
     pub fn json(&self, alloc: Global, offset: EpochOffset) -> Result<String, AllocError>
         ensures { IfOk result (λ text. string_bytes text ≡ advice_json self.now offset) }
     {
+        let group = &self.explanation;
+        let says = group.sentence(alloc, offset)?;
+        let unheard = group.unheard(alloc)?;
         let mut out = Writer::new(Vec::new(alloc));
         out.begin_object()?;
-        write_place(&mut out, offset, &self.explanation)?;
+        write_place(&mut out, offset, group)?;
         write_resorts(&mut out, offset, &self.last_resort)?;
-        write_verdict(alloc, &mut out, offset, self)?;
+        write_field(&mut out, offset, "les", &group.view.les)?;
+        write_field(&mut out, offset, "pg", &group.pg)?;
+        write_field(&mut out, offset, "says", &says.as_str())?;
+        write_field(&mut out, offset, "unheard", &unheard)?;
+        write_field(&mut out, offset, "up", &group.view.up)?;
+        write_field(&mut out, offset, "up_primary", &group.view.up_primary)?;
+        write_field(&mut out, offset, "verdict", &group.view.verdict.name())?;
+        write_field(&mut out, offset, "ways", self)?;
         out.end_object()?;
         into_line(out)
     }
@@ -62,30 +72,6 @@ fn write_resorts(
         Some(outcomes) => write_field(out, offset, "last_resort", outcomes),
         None => Ok(()),
     }
-}
-
-/// When it last served, its verdict and the sentence on it, whom it has to hear yet, and the ways that only start devices.
-fn write_verdict(
-    alloc: Global,
-    out: &mut Writer,
-    offset: EpochOffset,
-    advice: &Advice,
-) -> Result<(), AllocError>
-    ensures ok { OnOk result
-        (out.new.tokens ≡ out.old.tokens ++ fields_tokens (verdict_fields offset advice.now)) }
-    ensures before { out.new.before ≡ out.old.before }
-{
-    let group = &advice.explanation;
-    let says = group.sentence(alloc, offset)?;
-    let unheard = group.unheard(alloc)?;
-    write_field(out, offset, "les", &group.view.les)?;
-    write_field(out, offset, "pg", &group.pg)?;
-    write_field(out, offset, "says", &says.as_str())?;
-    write_field(out, offset, "unheard", &unheard)?;
-    write_field(out, offset, "up", &group.view.up)?;
-    write_field(out, offset, "up_primary", &group.view.up_primary)?;
-    write_field(out, offset, "verdict", &group.view.verdict.name())?;
-    write_field(out, offset, "ways", advice)
 }
 
 /// What was written by a writer that had nothing before, with a line feed behind it.

@@ -1,15 +1,16 @@
 //! A group in words.
 
 ghost use Rattle.std.specs.Prelude.{◌≡◌, IfOk, OnOk, string_bytes};
+ghost use Rattle.pgp_group_words.specs.Names.{cluster_epoch};
 ghost use Rattle.pgp_group_words.specs.Text.{Puts};
-ghost use Rattle.pgp_group_words.specs.Words.{acting_line, has_served, heading, hearing_lines, info_words, knows_of, advice_lines, list_lines, place_lines, sender_part, served_line, words_of};
+ghost use Rattle.pgp_group_words.specs.Words.{heading, info_words, advice_lines, les_part, list_lines, place_lines, words_of};
 
 use super::advice::Advice;
 use super::explanation::Explanation;
 use super::names::Leader;
 use super::offset::EpochOffset;
 use super::page::{InWords, Page};
-use pgp_ids::{Info, Seq};
+use pgp_ids::{Epoch, Info, Seq};
 use std::alloc::{AllocError, Global};
 
 impl Advice {
@@ -32,7 +33,13 @@ impl Page {
         let explanation = &advice.explanation;
         self.put_heading(explanation)?;
         self.put_place(explanation)?;
-        self.put_hearing(explanation)?;
+        self.put_list(
+            "\nHeard:",
+            &explanation.reasons.heard,
+            "\nHeard:\n  nobody\n",
+        )?;
+        let unheard = explanation.unheard(self.alloc())?;
+        self.put_list("Not heard:", &unheard, "")?;
         self.put_each("\n", explanation.reasons.blocking.as_slice())?;
         self.put_ways(advice)?;
         self.put_resorts(&advice.last_resort)
@@ -53,20 +60,9 @@ impl Page {
     }
 
     /// Where the group lies, since when, and when it last served.
-    #[tactic(auto, unfolding(crate::specs::Words::place_lines))]
+    #[tactic(auto, unfolding(crate::specs::Words::place_lines, crate::specs::Words::acting_line))]
     fn put_place(&mut self, explanation: &Explanation) -> Result<(), AllocError>
         ensures { OnOk result (Puts self.old self.new (place_lines self.old.naming explanation.now)) }
-    {
-        let up = self.places(&explanation.view.up)?;
-        self.put_acting(explanation)?;
-        writeln!(self, "up     {up}")?;
-        self.put_served(self.naming.offset.cluster_epoch(explanation.view.les))
-    }
-
-    /// Who serves the group, and since when.
-    #[tactic(auto, unfolding(crate::specs::Words::acting_line))]
-    fn put_acting(&mut self, explanation: &Explanation) -> Result<(), AllocError>
-        ensures { OnOk result (Puts self.old self.new (acting_line self.old.naming explanation.now)) }
     {
         let acting = self.places(&explanation.view.acting)?;
         let first = self.epoch(explanation.view.first);
@@ -76,35 +72,33 @@ impl Page {
             Leader(explanation.view.acting_primary),
             explanation.pool.size,
             explanation.pool.min_size,
+        )?;
+        let up = self.places(&explanation.view.up)?;
+        writeln!(self, "up     {up}")?;
+        self.put_les(
+            "It is not known to have served.\n",
+            "It is known to have last begun to serve in epoch ",
+            explanation.view.les,
+            ".\n",
         )
     }
 
-    /// When the group last served; epoch 0 stands for never.
-    #[tactic(auto, unfolding(crate::specs::Words::served_line))]
-    fn put_served(&mut self, les: u64) -> Result<(), AllocError>
-        ensures { OnOk result (Puts self.old self.new (served_line les)) }
+    /// Puts the epoch in which a group last served, with this before and that behind it. Epoch 0 stands for never, and `never` is put.
+    #[tactic(auto, unfolding(crate::specs::Words::les_part))]
+    fn put_les(
+        &mut self,
+        never: &str,
+        before: &str,
+        les: Epoch,
+        after: &str,
+    ) -> Result<(), AllocError>
+        ensures { OnOk result (Puts self.old self.new
+            (les_part never.now before.now (cluster_epoch self.old.naming.offset les) after.now)) }
     {
-        match les {
-            0 => self.push_str("It is not known to have served.\n"),
-            les => writeln!(
-                self,
-                "It is known to have last begun to serve in epoch {les}."
-            ),
+        match self.epoch(les) {
+            0 => self.push_str(never),
+            les => write!(self, "{before}{les}{after}"),
         }
-    }
-
-    /// Whom it has heard, and whom it has to hear yet.
-    #[tactic(auto, unfolding(crate::specs::Words::hearing_lines))]
-    fn put_hearing(&mut self, explanation: &Explanation) -> Result<(), AllocError>
-        ensures { OnOk result (Puts self.old self.new (hearing_lines self.old.naming explanation.now)) }
-    {
-        let unheard = explanation.unheard(self.alloc())?;
-        self.put_list(
-            "\nHeard:",
-            &explanation.reasons.heard,
-            "\nHeard:\n  nobody\n",
-        )?;
-        self.put_list("Not heard:", &unheard, "")
     }
 
     /// Puts a heading and a line for each of these; where there are none, that alone.
@@ -125,57 +119,33 @@ impl Page {
         self.put_each("\n  ", items.as_slice())?;
         self.push_str("\n")
     }
+}
 
-    /// Who sent an info, when, and how far the copy goes.
-    #[tactic(auto, unfolding(crate::specs::Words::sender_part))]
-    fn put_sender(&mut self, info: &Info) -> Result<(), AllocError>
-        ensures { OnOk result (Puts self.old self.new (sender_part self.old.naming info.now)) }
-    {
-        let member = self.name(&info.member)?;
-        let stamp = self.naming.offset.cluster_epoch(info.stamp);
-        let epoch = self.naming.offset.cluster_epoch(info.last_update.epoch);
-        let complete = if info.complete {
+/// Who sent it, when, how far the copy goes, when the sender last served, and when it knows that the group last did.
+impl InWords for Info {
+    ghost words = { info_words };
+
+    #[tactic(auto, unfolding(crate::specs::Words::info_words, crate::specs::Words::sender_part))]
+    fn put(&self, page: &mut Page) -> Result<(), AllocError> {
+        let member = page.name(&self.member)?;
+        let stamp = page.epoch(self.stamp);
+        let epoch = page.epoch(self.last_update.epoch);
+        let complete = if self.complete {
             "complete"
         } else {
             "not complete"
         };
         write!(
-            self,
+            page,
             "{member}  sent in epoch {stamp}, {complete}, last write {epoch}'{}",
-            info.last_update.v,
-        )
-    }
-
-    /// When the sender of an info last served; epoch 0 stands for never.
-    #[tactic(auto, unfolding(crate::specs::Words::has_served))]
-    fn put_has_served(&mut self, les: u64) -> Result<(), AllocError>
-        ensures { OnOk result (Puts self.old self.new (has_served les)) }
-    {
-        match les {
-            0 => self.push_str(", has not served"),
-            les => write!(self, ", began to serve in epoch {les}"),
-        }
-    }
-
-    /// When the sender knows that the group last served, if at all.
-    #[tactic(auto, unfolding(crate::specs::Words::knows_of))]
-    fn put_knows_of(&mut self, les: u64) -> Result<(), AllocError>
-        ensures { OnOk result (Puts self.old self.new (knows_of les)) }
-    {
-        match les {
-            0 => Ok(()),
-            les => write!(self, ", knows of epoch {les}"),
-        }
-    }
-}
-
-impl InWords for Info {
-    ghost words = { info_words };
-
-    #[tactic(auto, unfolding(crate::specs::Words::info_words))]
-    fn put(&self, page: &mut Page) -> Result<(), AllocError> {
-        page.put_sender(self)?;
-        page.put_has_served(page.naming.offset.cluster_epoch(self.les))?;
-        page.put_knows_of(page.naming.offset.cluster_epoch(self.history_les))
+            self.last_update.v,
+        )?;
+        page.put_les(
+            ", has not served",
+            ", began to serve in epoch ",
+            self.les,
+            "",
+        )?;
+        page.put_les("", ", knows of epoch ", self.history_les, "")
     }
 }

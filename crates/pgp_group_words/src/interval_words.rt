@@ -2,12 +2,12 @@
 
 ghost use Rattle.std.specs.Prelude.{◌≡◌, IfOk, OnOk};
 ghost use Rattle.pgp_reasons.specs.Smallest.{holds};
-ghost use Rattle.pgp_group_words.specs.IntervalWords.{down_line, fate_line, fate_lines, interval_lines, member_noun, members_on as members_on_osds, read_write_line, waits_line};
+ghost use Rattle.pgp_group_words.specs.IntervalWords.{down_line, down_members as members_down, fate_line, interval_lines, member_noun, read_write_line, waits_line};
 ghost use Rattle.pgp_group_words.specs.Text.{Puts};
 
 use super::names::{Leader, plural};
 use super::page::{InWords, Page};
-use pgp_ids::{Epoch, Member, OsdId, Osds, Seq};
+use pgp_ids::{Epoch, Member, OsdId, Seq};
 use pgp_prior::members_of;
 use pgp_reasons::{Blocking, IntervalNow};
 use std::alloc::{AllocError, Global};
@@ -18,16 +18,12 @@ impl InWords for Blocking {
     #[tactic(auto, unfolding(crate::specs::IntervalWords::interval_lines))]
     fn put(&self, page: &mut Page) -> Result<(), AllocError> {
         let interval = &self.interval;
-        let by_place = page.naming.by_place;
-        let down = members_on(
-            page.alloc(),
-            by_place,
-            &interval.acting,
-            interval.down.as_slice(),
-        )?;
         page.put_waits(self)?;
-        page.put_down_members(down.as_slice())?;
-        page.put_fates(interval)?;
+        page.put_down_members(interval)?;
+        let early = "declared lost before it began, which doesn't count for it";
+        page.put_fate(&interval.lost_before, early)?;
+        page.put_fate(&interval.lost, "declared lost, and no longer waited for")?;
+        page.put_fate(&interval.gone, "destroyed, and can't be waited for")?;
         page.put_read_write(self.clean, interval.acting.first())
     }
 }
@@ -61,23 +57,14 @@ impl Page {
 
     /// Its members that are down.
     #[tactic(auto, unfolding(crate::specs::IntervalWords::down_line))]
-    fn put_down_members(&mut self, down: &[Member]) -> Result<(), AllocError>
-        ensures { OnOk result (Puts self.old self.new (down_line self.old.naming down.now)) }
+    fn put_down_members(&mut self, interval: &IntervalNow) -> Result<(), AllocError>
+        ensures { OnOk result (Puts self.old self.new (down_line self.old.naming interval.now)) }
     {
-        let names = self.list(down)?;
+        let by_place = self.naming.by_place;
+        let down = down_members(self.alloc(), by_place, interval)?;
+        let names = self.list(down.as_slice())?;
         let are = plural(down.len(), "is", "are");
         writeln!(self, "  {names} {are} down")
-    }
-
-    /// What has become of its other devices.
-    #[tactic(auto, unfolding(crate::specs::IntervalWords::fate_lines))]
-    fn put_fates(&mut self, interval: &IntervalNow) -> Result<(), AllocError>
-        ensures { OnOk result (Puts self.old self.new (fate_lines interval.now)) }
-    {
-        let early = "declared lost before it began, which doesn't count for it";
-        self.put_fate(&interval.lost_before, early)?;
-        self.put_fate(&interval.lost, "declared lost, and no longer waited for")?;
-        self.put_fate(&interval.gone, "destroyed, and can't be waited for")
     }
 
     /// What has become of these devices, if there are some.
@@ -119,18 +106,17 @@ impl Page {
     }
 }
 
-/// The acting members on these devices, in the order of their places.
-fn members_on(
+/// Its acting members that are down, in the order of their places.
+fn down_members(
     alloc: Global,
     by_place: bool,
-    acting: &Osds,
-    osds: &[OsdId],
+    interval: &IntervalNow,
 ) -> Result<Vec<Member>, AllocError>
-    ensures { IfOk result (λ members. members.items ≡ members_on_osds by_place acting.now osds.now) }
+    ensures { IfOk result (λ members. members.items ≡ members_down by_place interval.now) }
 {
     let mut members = Vec::new(alloc);
-    for member in members_of(by_place, acting) {
-        if is_one_of(osds, member.osd) {
+    for member in members_of(by_place, &interval.acting) {
+        if is_one_of(interval.down.as_slice(), member.osd) {
             members.push(member)?;
         }
     }

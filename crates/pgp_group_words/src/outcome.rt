@@ -1,6 +1,6 @@
 ghost use Rattle.std.specs.Prelude.{◌≡◌, IfOk, OnOk, string_bytes};
 ghost use Rattle.pgp_group_words.specs.Text.{Puts};
-ghost use Rattle.pgp_group_words.specs.WaysWords.{has_too_few, later_part, says_then};
+ghost use Rattle.pgp_group_words.specs.WaysWords.{later_part, says_then};
 
 use super::explanation::Explanation;
 use super::offset::EpochOffset;
@@ -47,23 +47,18 @@ impl Then {
 }
 
 impl Page {
-    /// That it has too few members besides, where it has yet to hear some.
+    /// That its acting set has too few members besides, or they hold too few shards, where it has yet to hear some.
     fn put_later(&mut self, explanation: &Explanation) -> Result<(), AllocError>
         ensures { OnOk result (Puts self.old self.new (later_part explanation.now)) }
     {
-        if explanation.view.verdict == Verdict::Waiting && is_short(explanation) {
+        let acting = &explanation.view.acting;
+        let has_too_few = acting.osd_count() < usize::from(explanation.pool.min_size)
+            || explanation.reasons.short.lacks > 0;
+        if explanation.view.verdict == Verdict::Waiting && has_too_few {
             self.push_str(" ")?;
             self.put_few(explanation)
         } else {
             Ok(())
         }
     }
-}
-
-/// Whether its acting set has too few members, or they hold too few shards.
-fn is_short(explanation: &Explanation) -> bool
-    ensures { result ≡ has_too_few explanation.now }
-{
-    explanation.view.acting.osd_count() < usize::from(explanation.pool.min_size)
-        || explanation.reasons.short.lacks > 0
 }

@@ -1,9 +1,9 @@
 //! What a group waits for, in one sentence.
 
 ghost use Rattle.std.specs.Prelude.{◌≡◌, map, IfOk, OnOk, string_bytes};
-ghost use Rattle.std.specs.List.{list_any};
 ghost use Rattle.std.specs.Option.{option_copied};
-ghost use Rattle.pgp_group_words.specs.Sentence.{behind_part, fallen_part, few, few_shards, held_part, informed as informed_of, informed_beside_complete as informed_beside, log_words, naming_of, none_recent, on_down, on_incomplete, on_log, on_no_primary, on_serving, on_short, on_up_thru, on_waiting, osds_part, sentence_of, starters_part, unread_part};
+ghost use Rattle.std.specs.List.{list_any};
+ghost use Rattle.pgp_group_words.specs.Sentence.{behind_part, fallen_part, few, informed_beside_complete as informed_beside, naming_of, none_recent, on_down, on_incomplete, on_log, on_no_primary, on_serving, on_short, on_up_thru, on_waiting, osds_part, sentence_of, starters_part, unread_part};
 ghost use Rattle.pgp_group_words.specs.Text.{Puts};
 
 use super::explanation::Explanation;
@@ -12,7 +12,7 @@ use super::names::{Leader, plural};
 use super::offset::EpochOffset;
 use super::page::Page;
 use pgp_ids::{Epoch, Info, Member, OsdId, PeerMissing, Verdict};
-use pgp_reasons::{Gap, IntervalNow, Reasons};
+use pgp_reasons::{Gap, Reasons};
 use std::alloc::{AllocError, Global};
 
 impl Explanation {
@@ -105,28 +105,24 @@ impl Page {
         )
     }
 
-    /// Who might be started.
+    /// Who might be started: who is down of those that were complete when the group was last clean, or else of those that served
+    /// it last.
+    #[tactic(auto, unfolding(crate::specs::Sentence::held_part))]
     fn put_starters(&mut self, reasons: &Reasons) -> Result<(), AllocError>
         ensures { OnOk result (Puts self.old self.new (starters_part self.old.naming reasons.now)) }
     {
         match &reasons.clean {
-            Some(clean) if !clean.down.is_empty() => self.put_held(clean),
+            Some(clean) if !clean.down.is_empty() => {
+                let epochs = self.epochs_in(clean)?;
+                let down = self.list(clean.down.as_slice())?;
+                let are = plural(clean.down.len(), "is", "are");
+                write!(
+                    self,
+                    " Of those that were complete in {epochs}, when it was last clean, {down} {are} down."
+                )
+            }
             _ => self.put_fallen(reasons.short.fallen.as_slice()),
         }
-    }
-
-    /// Who of those that were complete when the group was last clean is down.
-    #[tactic(auto, unfolding(crate::specs::Sentence::held_part))]
-    fn put_held(&mut self, interval: &IntervalNow) -> Result<(), AllocError>
-        ensures { OnOk result (Puts self.old self.new (held_part self.old.naming interval.now)) }
-    {
-        let epochs = self.epochs_in(interval)?;
-        let down = self.list(interval.down.as_slice())?;
-        let are = plural(interval.down.len(), "is", "are");
-        write!(
-            self,
-            " Of those that were complete in {epochs}, when it was last clean, {down} {are} down."
-        )
     }
 
     /// Who of those that served the group last is down.
@@ -158,14 +154,19 @@ impl Page {
     }
 
     /// What the acting set lacks: members, or else shards.
-    #[tactic(auto, unfolding(crate::specs::Sentence::few_members))]
+    #[tactic(auto, unfolding(crate::specs::Sentence::few_members, crate::specs::Sentence::few_shards))]
     pub fn put_few(&mut self, explanation: &Explanation) -> Result<(), AllocError>
         ensures { OnOk result (Puts self.old self.new (few explanation.now)) }
     {
         let members = explanation.view.acting.osd_count();
         let least = usize::from(explanation.pool.min_size);
         if members >= least {
-            return self.put_few_shards(explanation.reasons.short.lacks);
+            let lacks = explanation.reasons.short.lacks;
+            let shards = plural(lacks, "shard", "shards");
+            return write!(
+                self,
+                "The members of its acting set hold too few shards to give objects back: it needs {lacks} more {shards}."
+            );
         }
         let more = least - members;
         let noun = plural(members, "member", "members");
@@ -176,33 +177,14 @@ impl Page {
         )
     }
 
-    /// Its members are enough, and hold too few shards.
-    #[tactic(auto, unfolding(crate::specs::Sentence::few_shards))]
-    fn put_few_shards(&mut self, lacks: usize) -> Result<(), AllocError>
-        ensures { OnOk result (Puts self.old self.new (few_shards lacks)) }
-    {
-        let shards = plural(lacks, "shard", "shards");
-        write!(
-            self,
-            "The members of its acting set hold too few shards to give objects back: it needs {lacks} more {shards}."
-        )
-    }
-
-    /// Entries of the log by which objects are brought up to date haven't been reported.
+    /// Entries of the log by which objects are brought up to date haven't been reported, or it is wrong all the same.
+    #[tactic(auto, unfolding(crate::specs::Sentence::log_words))]
     fn put_need_log(&mut self, best: Option<Member>, gaps: &[Gap]) -> Result<(), AllocError>
         ensures { OnOk result (Puts self.old self.new (on_log self.old.naming best gaps.now)) }
     {
-        match best {
-            Some(best) => self.put_log_of(best, gaps),
-            None => self.push_str("The log of its best copy is not whole."),
-        }
-    }
-
-    /// What is wrong with the log of this member.
-    #[tactic(auto, unfolding(crate::specs::Sentence::log_words))]
-    fn put_log_of(&mut self, best: Member, gaps: &[Gap]) -> Result<(), AllocError>
-        ensures { OnOk result (Puts self.old self.new (log_words self.old.naming best gaps.now)) }
-    {
+        let Some(best) = best else {
+            return self.push_str("The log of its best copy is not whole.");
+        };
         let best = self.name(&best)?;
         if gaps.is_empty() {
             return write!(
@@ -269,28 +251,14 @@ impl Page {
     }
 }
 
-/// The info that knows of the last epoch in which the group served, where one of the infos is of a complete copy.
+/// The info that knows of the last epoch in which the group served, where one of the infos is of a complete copy; of those that know
+/// of the same the last.
 fn informed_beside_complete(heard: &[Info]) -> Option<&Info>
     ensures { option_copied result ≡ informed_beside heard.now }
 {
-    if has_complete(heard) {
-        informed(heard)
-    } else {
-        None
+    if !has_complete(heard) {
+        return None;
     }
-}
-
-/// Whether one of the infos is of a complete copy.
-fn has_complete(heard: &[Info]) -> bool
-    ensures { result ≡ list_any (λ info. info.complete) heard.now }
-{
-    heard.iter().any(|info| info.complete)
-}
-
-/// The info that knows of the last epoch in which the group served; of those that know of the same the last.
-fn informed(heard: &[Info]) -> Option<&Info>
-    ensures { option_copied result ≡ informed_of heard.now }
-{
     let (first, others) = heard.split_first()?;
     let mut informed = first;
     for info in others {
@@ -299,4 +267,11 @@ fn informed(heard: &[Info]) -> Option<&Info>
         }
     }
     Some(informed)
+}
+
+/// Whether one of the infos is of a complete copy.
+fn has_complete(heard: &[Info]) -> bool
+    ensures { result ≡ list_any (λ info. info.complete) heard.now }
+{
+    heard.iter().any(|info| info.complete)
 }

@@ -1,7 +1,7 @@
 //! Runs of epochs and of writes in words.
 
-ghost use Rattle.std.specs.Prelude.{◌≡◌, ◌+◌, ◌==◌, map, IfOk, OnOk, string_bytes};
-ghost use Rattle.pgp_group_words.specs.Spans.{epochs_name, epochs_of as reported_epochs, interval_epochs, is_single as is_one_number, numbers_name, run_of_writes as run_of_gap, runs_name, runs_of_epochs as runs_of_intervals, span_name, then_run, writes_name};
+ghost use Rattle.std.specs.Prelude.{◌≡◌, map, IfOk, OnOk, string_bytes};
+ghost use Rattle.pgp_group_words.specs.Spans.{epochs_name, epochs_of as reported_epochs, interval_epochs, numbers_name, run_of_writes as run_of_gap, runs_name, span_name, then_run, writes_name};
 
 use super::offset::EpochOffset;
 use super::page::{InWords, Page};
@@ -41,22 +41,6 @@ fn epochs_of(interval: &IntervalNow, offset: EpochOffset) -> Span
     }
 }
 
-/// The epochs of intervals in ascending order; those that follow one upon another are one run.
-#[tactic(auto, unfolding(crate::specs::Spans::runs_of_epochs))]
-fn runs_of_epochs(
-    alloc: Global,
-    intervals: &[Blocking],
-    offset: EpochOffset,
-) -> Result<Vec<Span>, AllocError>
-    ensures { IfOk result (λ runs. runs.items ≡ runs_of_intervals offset intervals.now) }
-{
-    let mut runs = Vec::new(alloc);
-    for blocking in intervals {
-        join(&mut runs, epochs_of(&blocking.interval, offset))?;
-    }
-    Ok(runs)
-}
-
 /// Makes the last run longer where the next one follows upon it, and else appends it.
 #[tactic(auto, using(crate::proofs::SpanLemmas::run_steps))]
 fn join(runs: &mut Vec<Span>, next: Span) -> Result<(), AllocError>
@@ -66,7 +50,7 @@ fn join(runs: &mut Vec<Span>, next: Span) -> Result<(), AllocError>
         runs.push(next)?;
         return Ok(());
     };
-    if follows(run, next) {
+    if next.first > run.last && next.first - run.last == 1 {
         runs.push(Span {
             first: run.first,
             last: next.last,
@@ -76,13 +60,6 @@ fn join(runs: &mut Vec<Span>, next: Span) -> Result<(), AllocError>
         runs.push(next)?;
     }
     Ok(())
-}
-
-/// Whether the next run begins right behind the run.
-fn follows(run: Span, next: Span) -> bool
-    ensures { result ≡ (next.first == run.last + 1) }
-{
-    next.first > run.last && next.first - run.last == 1
 }
 
 /// The writes that a log lacks.
@@ -98,11 +75,15 @@ fn runs_of_writes(alloc: Global, gaps: &[Gap]) -> Result<Vec<Span>, AllocError>
 }
 
 impl Page {
-    /// The epochs of intervals in a sentence.
+    /// The epochs of intervals, which are in ascending order, in a sentence; those that follow one upon another are one run.
+    #[tactic(auto, unfolding(crate::specs::Spans::runs_of_epochs))]
     pub fn epochs(&self, intervals: &[Blocking]) -> Result<String, AllocError>
         ensures { IfOk result (λ text. string_bytes text ≡ epochs_name self.now.naming.offset intervals.now) }
     {
-        let runs = runs_of_epochs(self.alloc(), intervals, self.naming.offset)?;
+        let mut runs = Vec::new(self.alloc());
+        for blocking in intervals {
+            join(&mut runs, epochs_of(&blocking.interval, self.naming.offset))?;
+        }
         self.runs("epoch", runs.as_slice())
     }
 
@@ -127,7 +108,10 @@ impl Page {
         ensures { IfOk result (λ text. string_bytes text ≡ runs_name noun.now runs.now) }
     {
         let numbers = self.numbers(runs)?;
-        let plural = if is_single(runs) { " " } else { "s " };
+        let plural = match runs {
+            [run] if run.first == run.last => " ",
+            _ => "s ",
+        };
         format!(in self.alloc(); "{noun}{plural}{numbers}")
     }
 
@@ -141,15 +125,5 @@ impl Page {
         } else {
             self.list(runs)
         }
-    }
-}
-
-/// Whether the runs are one number alone.
-fn is_single(runs: &[Span]) -> bool
-    ensures { result ≡ is_one_number runs.now }
-{
-    match runs {
-        [run] => run.first == run.last,
-        _ => false,
     }
 }

@@ -2,7 +2,7 @@
 
 ghost use Rattle.std.specs.Prelude.{◌≡◌, OnOk};
 ghost use Rattle.pgp_group_words.specs.Text.{Puts};
-ghost use Rattle.pgp_group_words.specs.WaysWords.{any_line, away_part, deed_line, may_be_more as may_be_others, more_line, outcome_lines, outcomes_lines, price_line, resort_heading, resort_lines, then_line, unreadable_line, ways_heading, ways_lines, without_part};
+ghost use Rattle.pgp_group_words.specs.WaysWords.{any_line, deed_line, may_be_more as may_be_others, more_line, outcome_lines, outcomes_lines, price_line, resort_lines, then_line, unreadable_line, ways_heading, ways_lines};
 
 use super::advice::Advice;
 use super::names::plural;
@@ -35,7 +35,9 @@ impl Page {
     {
         match outcomes {
             Some(outcomes) if !outcomes.is_empty() => {
-                self.push_str(last_resort())?;
+                self.push_str(
+                    "\nLast resort, with no way back. First image each disk, or export what it has of the group (ceph-objectstore-tool\n--op export). A device that is declared lost is lost to all of its groups.\n",
+                )?;
                 self.put_outcomes(outcomes.as_slice())
             }
             _ => Ok(()),
@@ -104,28 +106,6 @@ impl Page {
             None => self.push_str("    what it is then isn't known: the log takes no more\n"),
         }
     }
-
-    /// That it goes on without the writes of an interval.
-    #[tactic(auto, unfolding(crate::specs::WaysWords::without_part))]
-    fn put_without(&mut self, interval: &IntervalNow) -> Result<(), AllocError>
-        ensures { OnOk result (Puts self.old self.new (without_part self.old.naming interval.now)) }
-    {
-        let epochs = self.epochs_in(interval)?;
-        write!(
-            self,
-            "    it goes on without what was written in {epochs}, at least: "
-        )
-    }
-
-    /// Which devices that are down may have it.
-    #[tactic(auto, unfolding(crate::specs::WaysWords::away_part))]
-    fn put_away(&mut self, osds: &Seq<OsdId>) -> Result<(), AllocError>
-        ensures { OnOk result (Puts self.old self.new (away_part osds.now)) }
-    {
-        let names = self.list(osds.as_slice())?;
-        let are = plural(osds.len(), "is", "are");
-        writeln!(self, "{names}, which {are} down, may have it")
-    }
 }
 
 /// A way: what is done, what the group is then, and what that costs.
@@ -145,16 +125,25 @@ impl InWords for Outcome {
 impl InWords for IntervalNow {
     ghost words = { price_line };
 
+    #[tactic(auto, unfolding(crate::specs::WaysWords::away_line, crate::specs::WaysWords::gone_line))]
     fn put(&self, page: &mut Page) -> Result<(), AllocError> {
         match self.writes {
             Writes::Readable => Ok(()),
             Writes::Away => {
-                page.put_without(self)?;
-                page.put_away(&self.down)
+                let epochs = page.epochs_in(self)?;
+                let names = page.list(self.down.as_slice())?;
+                let are = plural(self.down.len(), "is", "are");
+                writeln!(
+                    page,
+                    "    it goes on without what was written in {epochs}, at least: {names}, which {are} down, may have it"
+                )
             }
             Writes::Gone => {
-                page.put_without(self)?;
-                page.push_str("too few of the devices that took it are left\n")
+                let epochs = page.epochs_in(self)?;
+                writeln!(
+                    page,
+                    "    it goes on without what was written in {epochs}, at least: too few of the devices that took it are left"
+                )
             }
         }
     }
@@ -169,21 +158,11 @@ fn heading(verdict: Verdict) -> &'static str
     }
 }
 
-/// What stands above the ways that declare devices lost.
-fn last_resort() -> &'static str
-    ensures { result.now ≡ resort_heading }
-{
-    "\nLast resort, with no way back. First image each disk, or export what it has of the group (ceph-objectstore-tool\n--op export). A device that is declared lost is lost to all of its groups.\n"
-}
-
 /// Whether there may be ways that aren't listed.
 pub(crate) fn may_be_more(ways: &Ways) -> bool
     ensures { result ≡ may_be_others ways.now }
 {
-    match ways {
-        Ways::Any(_) => false,
-        Ways::Listed(listed) => listed.more,
-    }
+    matches!(ways, Ways::Listed(listed) if listed.more)
 }
 
 /// What is said where no object can be read then.

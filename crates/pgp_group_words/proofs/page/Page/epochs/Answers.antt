@@ -3,9 +3,10 @@ use Rattle.std.proofs.lemmas.List.{map_more}
 use Rattle.std.proofs.lemmas.List.Sums.{fold_push}
 use Rattle.pgp_reasons.specs.declared.blocking.Blocking.{Blocking}
 use Rattle.pgp_group_words.specs.Spans.{epochs_blocked, then_run}
+use Rattle.pgp_group_words.specs.Text.{Sheet}
 use Rattle.pgp_group_words.specs.declared.offset.EpochOffset.{EpochOffset}
 use Rattle.pgp_group_words.specs.declared.spans.Span.{Span}
-use Rattle.pgp_group_words.proofs.spans.runs_of_epochs.Goals as goal
+use Rattle.pgp_group_words.proofs.page.Page.epochs.Goals as goal
 
 -- one interval more
 one_more : (offset : EpochOffset) (xs : List Blocking) (i : ℕ) (d : Blocking) (old new : List Span) (next : Span) → i < length xs
@@ -17,5 +18,7 @@ one_more offset xs i d old new next below now is joined =
 
 pub loop-blocking-preserved : goal.loop-blocking-preserved
 loop-blocking-preserved c =
-    let next = c.epochs_of.ensures ∙ ap (epochs_blocked c.args.offset) c.blocking-item.is in
-    one_more c.args.offset c.args.intervals.now c.loop-blocking.blocking-index c.blocking-item.result _ _ _ c.loop-blocking-test.true c.loop-blocking.invariant next c.in_ok-join.ensures
+    let offset : EpochOffset = c.args.self.now.naming.offset in
+    let same : c.self.inside.naming.offset ≡ offset = ap (λ (page : Sheet). page.naming.offset) c.self.view_is in
+    let next = c.epochs_of.ensures ∙ ap (λ o. epochs_blocked o c.blocking-item.result) same ∙ ap (epochs_blocked offset) c.blocking-item.is in
+    one_more offset c.args.intervals.now c.loop-blocking.blocking-index c.blocking-item.result _ _ _ c.loop-blocking-test.true c.loop-blocking.invariant next c.in_ok-join.ensures
