@@ -2,8 +2,8 @@
 use Rattle.std.specs.Prelude.{◌≡◌, ◌⊎◌, List, ℕ, Bool, false, true, Result, IfErr, OnOk}
 use Rattle.std.specs.Io.KnownBytes.{Appends}
 use Rattle.pgp_whole.specs.Compaction.{IsCompacted, IsCompactedInPart}
-use Rattle.pgp_whole.specs.Joining.{IsJoined, IsJoinedInPart}
 use Rattle.pgp_whole.specs.declared.compact.Compaction.{Compaction}
+use Rattle.pgp_whole.specs.declared.compact.CompactMode.{CompactMode}
 use Rattle.pgp_lines.specs.declared.command.format.Format.{Format}
 use Rattle.pgp_core.specs.Account.{Account, NoCallFailed, account}
 use Rattle.pgp_core.specs.Output.{FrontWent}
@@ -11,7 +11,8 @@ use Rattle.pgp_core.specs.Run.{AllAnswered, Stopped, script_bounds}
 use Rattle.pgp_core.specs.Streams.{SinkState, SourceState}
 use Rattle.pgp_core.specs.declared.fault.ScriptFault.{ScriptFault}
 use Rattle.pgp_core.specs.declared.fault.ScriptFault.TheVariants.{Gone}
-use Rattle.pgp_whole.specs.Explanation.{Question, IsExplained, IsExplainedInPart}
+use Rattle.pgp_whole.specs.Explanation.{IsExplained, IsExplainedInPart}
+use Rattle.pgp_whole.specs.declared.subcommand.Question.{Question}
 use Rattle.pgp_cli.specs.declared.ending.Ending.{Ending}
 use Rattle.pgp_cli.specs.declared.ending.Ending.TheVariants.{Done, Usage, Fault}
 
@@ -46,9 +47,9 @@ pub record ExplainIsDone (before after : Account) : Type 0 where
 -- the writer got the lines that remain of the reader's script, or lines that stand for those, where incrementals are joined, and no
 -- call failed
 pub record CompactIsDone (before after : Account) : Type 0 where
+  pub mode : CompactMode
   pub counts : Compaction
-  pub compacted : ((format : Format) × IsCompacted format counts before.remaining after.remaining before.contents after.contents)
-      ⊎ IsJoined counts before.remaining after.remaining before.contents after.contents
+  pub compacted : IsCompacted mode counts before.remaining after.remaining before.contents after.contents
   pub quiet : NoCallFailed before after
 
 -- a text of help was written, nothing was read, and no call failed
@@ -62,9 +63,8 @@ pub record HelpIsShown (before after : Account) : Type 0 where
 -- or of help
 pub record IsCut (before after : Account) : Type 0 where
   pub part : ((asked : Question) × IsExplainedInPart asked before.remaining after.remaining before.contents after.contents)
-      ⊎ (((format : Format) × IsCompactedInPart format before.remaining after.remaining before.contents after.contents after.write_failed)
-      ⊎ (IsJoinedInPart before.remaining after.remaining before.contents after.contents after.write_failed
-      ⊎ ((text : List ℕ) × FrontWent before.contents after.contents text)))
+      ⊎ (((mode : CompactMode) × IsCompactedInPart mode before.remaining after.remaining before.contents after.contents after.write_failed)
+      ⊎ ((text : List ℕ) × FrontWent before.contents after.contents text))
   pub failed : after.write_failed ≡ true
 
 -- What the program did: one thing to its end (`Done`); nothing (`Usage`); or, where a fault ended it, a run as far as

@@ -2,7 +2,7 @@
 
 use pgp_core::{ScriptFault, WholeFault};
 use pgp_ids::PgId;
-use pgp_whole::{CompactFault, ExplainFault};
+use pgp_whole::SubcommandFault;
 use std::fmt;
 
 /// Why a script was not answered, explained or compacted to its end.
@@ -30,22 +30,13 @@ impl From<ScriptFault> for Fault {
     }
 }
 
-impl From<ExplainFault> for Fault {
-    fn from(why: ExplainFault) -> Fault {
+impl From<SubcommandFault> for Fault {
+    fn from(why: SubcommandFault) -> Fault {
         match why {
-            ExplainFault::Script(WholeFault::Memory) => Fault::Memory,
-            ExplainFault::Script(_) => Fault::Read,
-            ExplainFault::Write => Fault::Write,
-            ExplainFault::UnknownGroup(pg) => Fault::UnknownGroup(pg),
-        }
-    }
-}
-
-impl From<CompactFault> for Fault {
-    fn from(why: CompactFault) -> Fault {
-        match why {
-            CompactFault::Script(why) => Fault::from(ExplainFault::Script(why)),
-            CompactFault::Write => Fault::Write,
+            SubcommandFault::Script(WholeFault::Memory) => Fault::Memory,
+            SubcommandFault::Script(_) => Fault::Read,
+            SubcommandFault::Write => Fault::Write,
+            SubcommandFault::UnknownGroup(pg) => Fault::UnknownGroup(pg),
         }
     }
 }

@@ -17,7 +17,7 @@ mod tell;
 
 pub use ending::{DONE, Ending, FAULT, USAGE};
 pub use engine_run::run_engine;
-pub use request::{CompactOptions, ExplainOptions, Request, RunOptions, options, read_request};
+pub use request::{Request, RunOptions, options, read_request};
 pub use status::status_of;
 pub use streams::{Counted, WatchedStream};
 pub use tell::without_words;

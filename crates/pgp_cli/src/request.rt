@@ -7,6 +7,7 @@ use clap::error::ErrorKind;
 use clap::{ArgMatches, Error};
 use pgp_ids::{PgId, PoolId};
 use pgp_lines::Format;
+use pgp_whole::{CompactMode, Question};
 use std::alloc::Global;
 
 /// The greatest number of shards or workers.
@@ -46,39 +47,15 @@ pub struct RunOptions {
     ghost few_workers: { workers ≤ 64 },
 }
 
-/// Which group is to be explained, and how.
-#[derive(Clone, Copy, Debug)]
-pub struct ExplainOptions {
-    /// The group; if there is none, a summary over all groups.
-    pub pg: Option<PgId>,
-    /// With ways that declare devices lost.
-    pub losses: bool,
-    /// One JSON object in place of words.
-    pub json: bool,
-    /// What is added to each epoch in the explanation, except to 0.
-    pub epoch_offset: u32,
-    /// Up to which version lines are read.
-    pub format: Format,
-}
-
-/// How a script is to be compacted.
-#[derive(Clone, Copy, Debug)]
-pub struct CompactOptions {
-    /// Up to which version lines are read.
-    pub format: Format,
-    /// Whether incrementals are joined too: then it is version 3.
-    pub join: bool,
-}
-
 /// What the words of a command line ask for.
 #[derive(Clone, Copy, Debug)]
 pub enum Request {
     /// To answer a script.
     Run(RunOptions),
     /// To explain what a script says of its groups.
-    Explain(ExplainOptions),
-    /// To write the lines of a script that remain.
-    Compact(CompactOptions),
+    Explain(Question),
+    /// To write lines of a script that is compacted.
+    Compact(CompactMode),
 }
 
 /// Reads the words of a command line that asks for a run. The first word is the program's name.
@@ -151,12 +128,11 @@ fn format(text: Option<&str>) -> Result<Format, Refusal>
 fn read_compact(given: &ArgMatches) -> Result<Request, Refusal> {
     let join = given.get_flag("join");
     let text = given.get_str("format");
-    let format = match format(text)? {
-        Format::Two if join && text.is_none() => Format::Three,
-        Format::Two if join => return Err((ErrorKind::ArgumentConflict, WRONG_JOIN)),
-        format => format,
-    };
-    Ok(Request::Compact(CompactOptions { format, join }))
+    match format(text)? {
+        Format::Two if join && text.is_some() => Err((ErrorKind::ArgumentConflict, WRONG_JOIN)),
+        _ if join => Ok(Request::Compact(CompactMode::Joined)),
+        format => Ok(Request::Compact(CompactMode::Remaining(format))),
+    }
 }
 
 /// What the words after `explain` ask for.
@@ -169,7 +145,7 @@ fn read_explain(given: &ArgMatches) -> Result<Request, Refusal> {
         Some(text) => Some(group(text).ok_or((ErrorKind::ValueValidation, WRONG_GROUP))?),
         None => None,
     };
-    Ok(Request::Explain(ExplainOptions {
+    Ok(Request::Explain(Question {
         pg,
         losses: given.get_flag("losses"),
         json: given.get_flag("json"),

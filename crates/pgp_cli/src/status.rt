@@ -11,7 +11,7 @@ use super::request::{Request, read_request};
 use super::streams::Counted;
 use super::tell::{help_or_usage, report_fault, report_left_out};
 use pgp_core::{Sink, run_script};
-use pgp_whole::{compact_script, explain, join_script};
+use pgp_whole::{compact_script, explain};
 use std::alloc::Global;
 use std::io::Write;
 use std::sync::Wait;
@@ -69,24 +69,9 @@ fn carry_out<R: Counted, W: Sink, E: Write, T: Threads + Wait + Sync>(
             }
             Ok(run_engine(rt, alloc, options.format, reader, writer, shards, workers)?)
         }
-        Request::Explain(options) => Ok(explain(
-            alloc,
-            options.format,
-            reader,
-            writer,
-            errors,
-            options.pg,
-            options.losses,
-            options.json,
-            options.epoch_offset,
-        )?),
-        Request::Compact(options) if options.join => {
-            let joined = join_script(alloc, reader, writer)?;
-            report_left_out(&joined, errors);
-            Ok(())
-        }
-        Request::Compact(options) => {
-            let compacted = compact_script(alloc, options.format, reader, writer)?;
+        Request::Explain(question) => Ok(explain(alloc, &question, reader, writer, errors)?),
+        Request::Compact(mode) => {
+            let compacted = compact_script(alloc, mode, reader, writer)?;
             report_left_out(&compacted, errors);
             Ok(())
         }

@@ -16,20 +16,13 @@ use Rattle.pgp_whole.specs.Advice.{IsAdvice}
 use Rattle.pgp_whole.specs.Reading.{IsLogOfScript}
 use Rattle.pgp_whole.specs.Summary.{summary_of}
 use Rattle.pgp_whole.specs.SummaryText.{summary_text}
-use Rattle.pgp_whole.specs.declared.explain_fault.ExplainFault.{ExplainFault}
-use Rattle.pgp_whole.specs.declared.explain_fault.ExplainFault.TheVariants.{Script, Write, UnknownGroup}
+use Rattle.pgp_whole.specs.declared.subcommand.Question.{Question}
+use Rattle.pgp_whole.specs.declared.subcommand_fault.SubcommandFault.{SubcommandFault}
+use Rattle.pgp_whole.specs.declared.subcommand_fault.SubcommandFault.TheVariants.{Script, Write, UnknownGroup}
 
--- what is asked for: up to which version lines are read; a group, or else a summary of all; with ways that declare devices lost,
--- or without; as JSON, or else in words; and by how much epochs are ahead
-pub record Question : Type 0 where
-  pub format : Format
-  pub pg : Option PgId
-  pub losses : Bool
-  pub json : Bool
-  pub offset : EpochOffset
-
-abbrev pub question : Format → Option PgId → (losses json : Bool) → ℕ → Question
-question format pg losses json epoch_offset = record { format = format; pg = pg; losses = losses; json = json; offset = record { 0 = epoch_offset } }
+-- by how much epochs are ahead in what is asked for
+abbrev pub offset_of : Question → EpochOffset
+offset_of asked = record { 0 = asked.epoch_offset }
 
 -- as JSON, or else in words
 abbrev pub group_text : Bool → Advice → EpochOffset → Text
@@ -41,10 +34,14 @@ pub record IsGroupText (log : List Entry) (pg : PgId) (losses json : Bool) (offs
   pub is : IsAdvice log pg losses offset advice
   pub says : text ≡ group_text json advice offset
 
+-- the text says this of the group, or else of all
+abbrev pub SaysOf : Option PgId → List Entry → Question → Text → Type 0
+SaysOf None log asked text = text ≡ summary_text asked.json (summary_of log) (offset_of asked)
+SaysOf (Some pg) log asked text = IsGroupText log pg asked.losses asked.json (offset_of asked) text
+
 -- the text says what is asked for
-abbrev pub SaysAsked : List Entry → Option PgId → (losses json : Bool) → EpochOffset → Text → Type 0
-SaysAsked log None losses json offset text = text ≡ summary_text json (summary_of log) offset
-SaysAsked log (Some pg) losses json offset text = IsGroupText log pg losses json offset text
+abbrev pub SaysAsked : List Entry → Question → Text → Type 0
+SaysAsked log asked text = SaysOf asked.pg log asked text
 
 -- The reader gave a script to its end, and the writer got the text that says what is asked for by the log that the script makes:
 -- of a group what there is to say of it, or else the summary.
@@ -52,7 +49,7 @@ pub record IsExplained (asked : Question) (from to start now : Option (List ℕ)
   pub log : List Entry
   pub log_is : IsLogOfScript asked.format log from to
   pub text : Text
-  pub says : SaysAsked log asked.pg asked.losses asked.json asked.offset text
+  pub says : SaysAsked log asked text
   pub went : Appends start now text
 
 -- The same, where a write failed: a first part of the text went out.
@@ -60,7 +57,7 @@ pub record IsExplainedInPart (asked : Question) (from to start now : Option (Lis
   pub log : List Entry
   pub log_is : IsLogOfScript asked.format log from to
   pub text : Text
-  pub says : SaysAsked log asked.pg asked.losses asked.json asked.offset text
+  pub says : SaysAsked log asked text
   pub front : FrontWent start now text
 
 -- The map of the log that the script makes has no group of this name.
@@ -70,7 +67,7 @@ pub record HasNoGroup (format : Format) (pg : PgId) (from to : Option (List ℕ)
   pub none : scratch log pg ≡ None
 
 -- why there is no text: the map doesn't have the group that is asked about, or there was no memory
-abbrev pub StopsText : ExplainFault → List Entry → Option PgId → Type 0
+abbrev pub StopsText : SubcommandFault → List Entry → Option PgId → Type 0
 StopsText (Script Read) log pg = ⊥
 StopsText (Script TooLarge) log pg = ⊥
 StopsText (Script Memory) log pg = Unit {0}

@@ -8,8 +8,8 @@ use Rattle.pgp_core.specs.Added.{IsRefusedBy, added_by, log_of_lines, with_added
 use Rattle.pgp_core.specs.Lines.{lines_of}
 use Rattle.pgp_core.specs.Run.{script_bounds}
 use Rattle.pgp_core.specs.Whole.{IsWholeScript}
-use Rattle.pgp_whole.specs.declared.explain_fault.ExplainFault.{ExplainFault}
-use Rattle.pgp_whole.specs.declared.explain_fault.ExplainFault.TheVariants.{Script}
+use Rattle.pgp_whole.specs.declared.subcommand_fault.SubcommandFault.{SubcommandFault}
+use Rattle.pgp_whole.specs.declared.subcommand_fault.SubcommandFault.TheVariants.{Script}
 
 -- The reader gave a script within its bounds, to its end, and this is the log that its lines make.
 pub record IsLogOfScript (format : Format) (log : List Entry) (from to : Option (List ℕ)) : Type 0 where
@@ -33,6 +33,6 @@ pub record IsRefusedInPart (format : Format) (from to : Option (List ℕ)) : Typ
   pub refused : HasRefused format [] (lines_of script)
 
 -- why a script makes no log: a read failed, it is larger than its bounds, or there was no memory
-abbrev pub IsOfReading : ExplainFault → Type 0
+abbrev pub IsOfReading : SubcommandFault → Type 0
 IsOfReading (Script why) = Unit {0}
 IsOfReading other = ⊥

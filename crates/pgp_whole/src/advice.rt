@@ -4,13 +4,13 @@ ghost use Rattle.std.specs.Prelude.{◌≡◌, Some, None, map as mapped, IfOk, 
 ghost use Rattle.pgp_reasons.specs.GroupWays.{lost_at_epoch};
 ghost use Rattle.pgp_group.specs.View.{scratch};
 ghost use Rattle.pgp_whole.specs.Advice.{AreOutcomes, AreResorts, IsAdvice, IsAfterWay, IsOutcomeOfChoice, IsToldBy, choice_of, next_epoch, way_inc};
+ghost use Rattle.pgp_whole.specs.Explained.{IsExplainedBy};
 
 use super::choice::{Choice, copy, resorts, starts, told_sets};
-use super::groups::explanation_of;
 use pgp_core::Log;
-use pgp_group_words::{Advice, EpochOffset, Outcome, Then};
+use pgp_group_words::{Advice, EpochOffset, Explanation, Outcome, Then};
 use pgp_ids::{DeviceEpoch, Entry, Epoch, Incremental, OsdId, PgId, Seq, View};
-use pgp_reasons::price_of;
+use pgp_reasons::{price_of, reasons_of};
 use std::alloc::{AllocError, Global};
 
 /// What there is to say of a group by the log, with ways that declare devices lost where these are wanted. None where the map has
@@ -41,6 +41,31 @@ pub(crate) fn advice_of(
         explanation,
         ways,
         last_resort,
+    }))
+}
+
+/// The view of a group by the log, the reasons for its verdict, and its pool. None where the map has no such group.
+fn explanation_of(
+    alloc: Global,
+    log: &mut Log,
+    pg: &PgId,
+) -> Result<Option<Explanation>, AllocError>
+    ensures some { IfOk result (λ found. IfSome found (IsExplainedBy log.old pg.now)) }
+    ensures none { IfOk result (λ found. IfNone found (scratch log.old pg.now ≡ None)) }
+    ensures same { log.new ≡ log.old }
+{
+    let Some(pool) = log.map().pool(pg.pool) else {
+        return Ok(None);
+    };
+    let Some(view) = log.ask(*pg)? else {
+        return Ok(None);
+    };
+    let reasons = reasons_of(alloc, log.map(), log.entries(), *pg, &view)?;
+    Ok(Some(Explanation {
+        pg: *pg,
+        pool,
+        view,
+        reasons,
     }))
 }
 

@@ -1,5 +1,5 @@
 //! What is told of a line that is refused.
-ghost use Rattle.std.specs.Prelude.{◌≡◌, ◌++◌, ◌∷◌, [], List, ℕ, codes, decimal, IfOk, OnOk, OnErr};
+ghost use Rattle.std.specs.Prelude.{◌≡◌, ◌++◌, ◌∷◌, [], List, ℕ, codes, decimal, OnOk, OnErr};
 ghost use Rattle.std.specs.String.{string_bytes};
 
 use pgp_ids::{Refusal, TextFault};
@@ -26,16 +26,8 @@ pub(crate) fn put_fault(
     ensures format { reader.new.format ≡ reader.old.format }
 {
     let told = text_of(alloc, reader, line, refused)?;
-    let text = line_of(alloc, number, told.as_str())?;
+    let text = format!(in alloc; "line {number}: {told}\n")?;
     errors.push_str(text.as_str())
-}
-
-/// What is told of the line of this number, with its line feed.
-fn line_of(alloc: Global, number: u64, told: &str) -> Result<String, AllocError>
-    ensures { IfOk result (λ text. string_bytes text
-        ≡ codes "line " ++ (decimal number ++ (codes ": " ++ (told.now ++ LINE_FEED ∷ [])))) }
-{
-    format!(in alloc; "line {number}: {told}\n")
 }
 
 /// The name of a refusal, and what is wrong. What the log refuses, and what has no answer, has its number behind its name.

@@ -2,8 +2,8 @@
 //! devices all groups wait.
 //!
 //! [`compact_script`] writes the lines whose entries `pgp_compact` keeps, byte for byte and in their order. Its laws say that a
-//! run of what is written takes just the compacted log. [`join_script`] also joins incrementals, by what pgp_join makes, and writes
-//! only what is alike.
+//! run of what is written takes just the compacted log. [`CompactMode::Joined`] also joins incrementals, by what pgp_join makes, and
+//! writes only what is alike.
 //!
 //! [`explain`] has a log take the entries, and asks at its end. Of a group it tells the view from scratch by the entries that were
 //! taken, and the reasons of pgp_reasons. Of all groups it tells a `Summary`, made of the views of all. pgp_group_words has the
@@ -13,26 +13,21 @@
 mod advice;
 mod choice;
 mod compact;
-mod compact_fault;
 mod devices;
 mod entries;
-mod explain_fault;
 mod fault;
 mod group_counts;
 mod group_sums;
-mod groups;
 mod join;
 pub mod laws;
 mod read;
 mod stamps;
 mod subcommand;
+mod subcommand_fault;
 mod summary;
 mod summary_json;
 mod summary_words;
-mod text;
 
-pub use compact::{Compaction, compact_script};
-pub use compact_fault::CompactFault;
-pub use explain_fault::ExplainFault;
-pub use join::join_script;
-pub use subcommand::explain;
+pub use compact::{CompactMode, Compaction, compact_script};
+pub use subcommand::{Question, explain};
+pub use subcommand_fault::SubcommandFault;

@@ -7,44 +7,31 @@ ghost use Rattle.pgp_core.specs.Run.{script_bounds};
 ghost use Rattle.pgp_core.specs.Whole.{GivesTooMuch};
 ghost use Rattle.pgp_whole.specs.Reading.{HasRefused, IsLogOfScript, IsOfReading, IsRefusedInPart, IsRefusedLine};
 
-use super::explain_fault::ExplainFault;
 use super::fault::put_fault;
+use super::subcommand_fault::SubcommandFault;
 use pgp_core::{LineOutcome, Log, SCRIPT_BOUNDS, Source, WholeFault, first_line, read_whole};
 use pgp_lines::{Format, LineReader};
 use std::alloc::{AllocError, Global};
 use std::io::Write;
 
-/// Reads a script whole, and gives the log that its lines up to this version make. What is wrong with them goes to `errors`; what can't be written
-/// there is lost. It is read whole since what is wrong with a line is looked up in the line.
+/// Reads a script whole, and gives the log that its lines up to this version make. What is wrong with them goes to `errors`, once
+/// all are read; what can't be written there is lost. It is read whole since what is wrong with a line is looked up in the line.
 pub fn read_log<R: Source, E: Write>(
     alloc: Global,
     format: Format,
     reader: &mut R,
     errors: &mut E,
-) -> Result<Log, ExplainFault>
+) -> Result<Log, SubcommandFault>
     ensures ok { IfOk result (λ log. IsLogOfScript format log (R.state reader.old).remaining (R.state reader.new).remaining) }
     ensures told { (errors.new ≡ errors.old) ⊎ IsRefusedInPart format (R.state reader.old).remaining (R.state reader.new).remaining }
     ensures err { IfErr result (λ fault. IsOfReading fault) }
-    ensures read { result ≡ Err (ExplainFault.Script WholeFault.Read) → (R.state reader.new).failed ≡ true }
-    ensures large { result ≡ Err (ExplainFault.Script WholeFault.TooLarge) → GivesTooMuch script_bounds (R.state reader.old).remaining (R.state reader.new).remaining }
-    ensures kept { result ≢ Err (ExplainFault.Script WholeFault.Read) → (R.state reader.new).failed ≡ (R.state reader.old).failed }
+    ensures read { result ≡ Err (SubcommandFault.Script WholeFault.Read) → (R.state reader.new).failed ≡ true }
+    ensures large { result ≡ Err (SubcommandFault.Script WholeFault.TooLarge) → GivesTooMuch script_bounds (R.state reader.old).remaining (R.state reader.new).remaining }
+    ensures kept { result ≢ Err (SubcommandFault.Script WholeFault.Read) → (R.state reader.new).failed ≡ (R.state reader.old).failed }
 {
     let script = read_whole(alloc, reader, SCRIPT_BOUNDS)?;
-    Ok(read_lines(alloc, format, script.as_slice(), errors)?)
-}
-
-/// The log that the lines of the script make. What is wrong with them goes to `errors`, once all are read.
-fn read_lines<E: Write>(
-    alloc: Global,
-    format: Format,
-    script: &[u8],
-    errors: &mut E,
-) -> Result<Log, AllocError>
-    ensures log { IfOk result (λ log. log ≡ log_of_lines format (lines_of script.now)) }
-    ensures told { (errors.new ≡ errors.old) ⊎ HasRefused format [] (lines_of script.now) }
-{
     let mut faults = String::new(alloc);
-    let log = take_lines(alloc, format, script, &mut faults)?;
+    let log = take_lines(alloc, format, script.as_slice(), &mut faults)?;
     put(errors, faults.as_str());
     Ok(log)
 }

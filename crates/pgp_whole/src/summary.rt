@@ -5,7 +5,7 @@ ghost use Rattle.pgp_ids.specs.declared.pg_id.PgId.{PgId as Group};
 ghost use Rattle.pgp_map.specs.MapOf.{Says};
 ghost use Rattle.pgp_group.specs.GroupLog.{group_in};
 ghost use Rattle.pgp_whole.specs.Hearing.{AreStamps};
-ghost use Rattle.pgp_whole.specs.Summary.{all_groups, group_count, groups_of_pool, summary_of, verdict_count};
+ghost use Rattle.pgp_whole.specs.Summary.{all_groups, groups_of_pool, summary_of, verdict_count};
 ghost use Rattle.pgp_whole.specs.Sums.{AreSums};
 
 use super::devices::{DeviceWaits, devices_of};
@@ -67,24 +67,17 @@ fn all_groups(alloc: Global, map: &OsdMap) -> Result<Vec<PgId>, AllocError>
     Ok(groups)
 }
 
-/// Puts the groups of a pool behind `groups`.
-fn put_groups(map: &OsdMap, pool: PoolId, groups: &mut Vec<PgId>) -> Result<(), AllocError>
-    ensures { OnOk result (Says map.now (λ incs. groups.new.items ≡ groups.old.items ++ groups_of_pool incs pool)) }
+/// Puts the groups of a pool behind `groups`; none where the map doesn't have it.
+fn put_groups(map: &OsdMap, id: PoolId, groups: &mut Vec<PgId>) -> Result<(), AllocError>
+    ensures { OnOk result (Says map.now (λ incs. groups.new.items ≡ groups.old.items ++ groups_of_pool incs id)) }
 {
-    for pg in 0..group_count(map, pool) {
-        groups.push(PgId { pool, pg })?;
+    let Some(pool) = map.pool(id) else {
+        return Ok(());
+    };
+    for pg in 0..pool.pg_num {
+        groups.push(PgId { pool: id, pg })?;
     }
     Ok(())
-}
-
-/// How many groups the pool has; none where the map doesn't have it.
-fn group_count(map: &OsdMap, id: PoolId) -> u16
-    ensures { Says map.now (λ incs. result ≡ group_count incs id) }
-{
-    match map.pool(id) {
-        Some(pool) => pool.pg_num,
-        None => 0,
-    }
 }
 
 /// What the views of these groups tell of them together, by the stamps of the log's infos.

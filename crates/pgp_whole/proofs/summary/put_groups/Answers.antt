@@ -6,4 +6,4 @@ use Rattle.pgp_whole.proofs.summary.put_groups.Goals as goal
 
 pub loop-pg-preserved : goal.loop-pg-preserved
 loop-pg-preserved c =
-    grind (arith, common_steps, map-range_with_len_more (group_of c.args.pool) 0 c.loop-pg.pg c.loop-pg.pg (omega arith), append_assoc)
+    grind (arith, common_steps, map-range_with_len_more (group_of c.args.id) 0 c.loop-pg.pg c.loop-pg.pg (omega arith), append_assoc)

@@ -2,7 +2,7 @@ use Rattle.std.proofs.Common.{◌<◌, ◌+◌, ◌++◌, List, ℕ, [], length,
 use Rattle.pgp_compact.specs.Needed.{chosen}
 use Rattle.pgp_whole.specs.Remaining.{text_of_lines}
 use Rattle.pgp_whole.proofs.Lines.{text-next}
-use Rattle.pgp_whole.proofs.text.text_of.Goals as goal
+use Rattle.pgp_whole.proofs.compact.text_of.Goals as goal
 
 pub loop-place-preserved : goal.loop-place-preserved
 loop-place-preserved c =

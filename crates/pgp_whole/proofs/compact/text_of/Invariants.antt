@@ -1,7 +1,7 @@
 use Rattle.std.proofs.Common.{◌≡◌, ◌++◌, drop, map}
 use Rattle.pgp_compact.specs.Needed.{chosen}
 use Rattle.pgp_whole.specs.Remaining.{text_of_lines}
-use Rattle.pgp_whole.proofs.text.text_of.Given as goal
+use Rattle.pgp_whole.proofs.compact.text_of.Given as goal
 
 abbrev pub invariant-loop-place : goal.invariant-loop-place
 invariant-loop-place l =

@@ -5,7 +5,7 @@ use Rattle.pgp_group.specs.View.{scratch}
 use Rattle.pgp_ids.specs.declared.entry.Entry.{Entry}
 use Rattle.pgp_map.specs.MapOf.{IsMapOf}
 use Rattle.pgp_whole.proofs.SummaryGroups.{viewed}
-use Rattle.pgp_whole.proofs.groups.explanation_of.Goals as goal
+use Rattle.pgp_whole.proofs.advice.explanation_of.Goals as goal
 
 pub returns-clause-some : goal.returns-clause-some
 returns-clause-some c =
