@@ -3,10 +3,9 @@
 ghost use Rattle.std.specs.Prelude.{◌≡◌, ◌++◌, ◌∷◌, [], IfOk, OnOk, string_bytes};
 ghost use Rattle.json.specs.Print.{print};
 ghost use Rattle.pgp_text.specs.Written.{fields_tokens};
-ghost use Rattle.pgp_group_words.specs.Json.{advice_json, place_fields, resort_fields};
+ghost use Rattle.pgp_group_words.specs.Json.{advice_json, resort_fields};
 
 use super::advice::Advice;
-use super::explanation::Explanation;
 use super::offset::EpochOffset;
 use super::outcome::Outcome;
 use json::Writer;
@@ -25,7 +24,20 @@ impl Advice {
         let unheard = group.unheard(alloc)?;
         let mut out = Writer::new(Vec::new(alloc));
         out.begin_object()?;
-        write_place(&mut out, offset, group)?;
+        write_field(&mut out, offset, "acting", &group.view.acting)?;
+        write_field(
+            &mut out,
+            offset,
+            "acting_primary",
+            &group.view.acting_primary,
+        )?;
+        write_field(&mut out, offset, "blocking", &group.reasons.blocking)?;
+        write_field(&mut out, offset, "clean", &group.reasons.clean)?;
+        write_field(&mut out, offset, "copies", &group.reasons.copies)?;
+        write_field(&mut out, offset, "epoch", &group.view.epoch)?;
+        write_field(&mut out, offset, "first", &group.view.first)?;
+        write_field(&mut out, offset, "gaps", &group.reasons.gaps)?;
+        write_field(&mut out, offset, "heard", &group.reasons.heard)?;
         write_resorts(&mut out, offset, &self.last_resort)?;
         write_field(&mut out, offset, "les", &group.view.les)?;
         write_field(&mut out, offset, "pg", &group.pg)?;
@@ -38,23 +50,6 @@ impl Advice {
         out.end_object()?;
         into_line(out)
     }
-}
-
-/// Where the group lies, since when, what blocks it, what its log lacks, and whom it has heard.
-fn write_place(out: &mut Writer, offset: EpochOffset, group: &Explanation) -> Result<(), AllocError>
-    ensures ok { OnOk result
-        (out.new.tokens ≡ out.old.tokens ++ fields_tokens (place_fields offset group.now)) }
-    ensures before { out.new.before ≡ out.old.before }
-{
-    write_field(out, offset, "acting", &group.view.acting)?;
-    write_field(out, offset, "acting_primary", &group.view.acting_primary)?;
-    write_field(out, offset, "blocking", &group.reasons.blocking)?;
-    write_field(out, offset, "clean", &group.reasons.clean)?;
-    write_field(out, offset, "copies", &group.reasons.copies)?;
-    write_field(out, offset, "epoch", &group.view.epoch)?;
-    write_field(out, offset, "first", &group.view.first)?;
-    write_field(out, offset, "gaps", &group.reasons.gaps)?;
-    write_field(out, offset, "heard", &group.reasons.heard)
 }
 
 /// The ways that declare devices lost, where these are wanted.
