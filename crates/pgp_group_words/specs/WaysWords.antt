@@ -1,5 +1,5 @@
 -- What would bring a group back, in words.
-use Rattle.std.specs.Prelude.{ℕ, ◌==◌, List, [], ◌∷◌, ◌++◌, Bool, true, false, ◌||◌, ◌&&◌, nat_lt, length, Option, Some, None, codes, decimal, string_bytes, if◌then◌else◌}
+use Rattle.std.specs.Prelude.{◌==◌, List, [], ◌∷◌, ◌++◌, Bool, true, false, ◌||◌, ◌&&◌, nat_lt, length, Option, Some, None, codes, decimal, string_bytes, if◌then◌else◌}
 use Rattle.pgp_ids.specs.Names.{verdict_name}
 use Rattle.pgp_ids.specs.Osds.{osd_count}
 use Rattle.pgp_ids.specs.declared.verdict.Verdict.{Verdict}

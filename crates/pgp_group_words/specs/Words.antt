@@ -1,5 +1,5 @@
 -- What is said of a group in words.
-use Rattle.std.specs.Prelude.{ℕ, ◌==◌, List, [], ◌∷◌, ◌++◌, length, codes, decimal, if◌then◌else◌}
+use Rattle.std.specs.Prelude.{ℕ, ◌==◌, List, [], ◌∷◌, length, codes, decimal, if◌then◌else◌}
 use Rattle.pgp_ids.specs.Names.{verdict_name}
 use Rattle.pgp_ids.specs.declared.report.Info.{Info}
 use Rattle.pgp_group_words.specs.IntervalWords.{interval_lines}

@@ -1,4 +1,4 @@
-use Rattle.std.proofs.Common.{◌≡◌, ◌++◌, [], ◌∷◌, ap, sym, ◌∙◌, subst, nat_lt, map}
+use Rattle.std.proofs.Common.{◌≡◌, ◌++◌, [], ◌∷◌, ap, sym, ◌∙◌, subst, nat_lt}
 use Rattle.std.proofs.lemmas.List.{map-append}
 use Rattle.pgp_lists.specs.Ordered.{IsAscending}
 use Rattle.pgp_group.specs.Verdict.{verdict}
