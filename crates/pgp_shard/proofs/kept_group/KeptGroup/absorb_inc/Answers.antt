@@ -12,18 +12,18 @@ pub returns-then-is_marked-clause-ok : goal.returns-then-is_marked-clause-ok
 returns-then-is_marked-clause-ok c = λ log is step.
     let still = c.may_move.ensures.stays c.if-may_move.false log is step in
     elim c.then-is_marked.branch [
-      then-is_marked-via-then-is_marked w ↦
-        kept-unseen log c.args.inc.now c.args.before.now c.args.after.now c.args.self.now (sym c.is_marked.ensures ∙ w.if-is_marked.true) step is still
-    | then-is_marked-via-else-is_marked+then-not-is_touched w ↦
-        kept-stays log c.args.inc.now c.args.before.now c.args.after.now c.args.self.now step is (sym (w.is_touched.ensures log is) ∙ w.if-not-is_touched.true)
+      | then-is_marked-via-then-is_marked w ↦
+          kept-unseen log c.args.inc.now c.args.before.now c.args.after.now c.args.self.now (sym c.is_marked.ensures ∙ w.if-is_marked.true) step is still
+      | then-is_marked-via-else-is_marked+then-not-is_touched w ↦
+          kept-stays log c.args.inc.now c.args.before.now c.args.after.now c.args.self.now step is (sym (w.is_touched.ensures log is) ∙ w.if-not-is_touched.true)
     ]
 
 pub returns-clause-ok : goal.returns-clause-ok
 returns-clause-ok c = λ log is step.
     elim c.if-may_move.branch [
-      then-may_move+in_ok-move_on w ↦
-        subst (λ (kept : KeptGroup). IsKeptOf (log ++ entry.Inc c.args.inc.now ∷ []) (record kept { view = None })) (sym w.self-is) (w.in_ok-move_on.ensures.ok log is step)
-    | else-may_move+else-is_marked+else-not-is_touched w ↦
-        subst (λ (kept : KeptGroup). IsKeptOf (log ++ entry.Inc c.args.inc.now ∷ []) (record kept { view = None })) (sym w.self-is)
-        (kept-marked log c.args.inc.now c.args.before.now c.args.after.now c.args.self.now step is (c.may_move.ensures.stays w.if-may_move.false log is step))
+      | then-may_move+in_ok-move_on w ↦
+          subst (λ (kept : KeptGroup). IsKeptOf (log ++ entry.Inc c.args.inc.now ∷ []) (record kept { view = None })) (sym w.self-is) (w.in_ok-move_on.ensures.ok log is step)
+      | else-may_move+else-is_marked+else-not-is_touched w ↦
+          subst (λ (kept : KeptGroup). IsKeptOf (log ++ entry.Inc c.args.inc.now ∷ []) (record kept { view = None })) (sym w.self-is)
+          (kept-marked log c.args.inc.now c.args.before.now c.args.after.now c.args.self.now step is (c.may_move.ensures.stays w.if-may_move.false log is step))
     ]
