@@ -1,12 +1,12 @@
 -- The tables of the logarithm, held against their formulas entry by entry, and the power of 2 below a number.
-use Rattle.std.proofs.Common.{◌≡◌, ◌<◌, ◌≤◌, ℕ, zero, suc, ◌+◌, ◌-◌, ◌*◌, ◌/◌, ◌%◌, ◌^◌, Bool, true, false, ◌&&◌, nat_eq, nat_le, nat_lt, min, List, slice_index_or, unwrap_or, Some, refl, arith, ap, sym, ◌∙◌, inl, inr, one-add}
+use Rattle.std.proofs.Common.{◌≡◌, ◌<◌, ◌≤◌, ℕ, zero, suc, ◌+◌, ◌-◌, ◌*◌, ◌^◌, Bool, true, false, ◌&&◌, nat_eq, nat_le, nat_lt, min, List, slice_index_or, unwrap_or, Some, refl, arith, ap, sym, ◌∙◌, inl, inr, one-add}
 use Rattle.std.specs.Int.Count.{count_leading_zeros}
 use Rattle.std.proofs.Math.Nat.{mul-le-mul_right, pow-le-pow_right, mul_assoc}
 use Rattle.std.proofs.lemmas.Nat.{pow-add, leading_top}
 use Rattle.std.proofs.lemmas.Bool.{cases_eq, cases_lt}
 use Rattle.std.proofs.lemmas.Bool.Decides.{nat_tests}
 use Rattle.pgp_crush.specs.Least.{greatest_below}
-use Rattle.pgp_crush.specs.Logarithm.{power_of, reciprocal}
+use Rattle.pgp_crush.specs.Logarithm.{power_of}
 
 -- ---- tables
 
@@ -39,26 +39,6 @@ pub entry_within : (table : List ℕ) (factor : ℕ → ℕ) (bound n : ℕ) →
 entry_within table factor bound n h k below =
     let less : nat_lt (factor k * slice_index_or table k 0) bound ≡ true = at (λ k. nat_lt (factor k * slice_index_or table k 0) bound) n h k below in
     grind (arith, nat_tests)
-
--- ---- the place in the fine table
-
--- a reciprocal and a division lead to the same place, by computation of all that come up
-is_place : ℕ → ℕ → Bool
-is_place k low = nat_eq (((128 + k) * 2 ^ 8 + low) * reciprocal k / 2 ^ 48 % 2 ^ 8) (low * 128 / (128 + k))
-
-place_is : (k high low scaled : ℕ) → is_place k low ≡ true → 128 + k ≡ high → high * 2 ^ 8 + low ≡ scaled → (scaled * reciprocal k / 2 ^ 48) % 2 ^ 8 ≡ low * 128 / high
-unfolding is_place
-place_is k high low scaled h above whole =
-    let same : (((128 + k) * 2 ^ 8 + low) * reciprocal k / 2 ^ 48) % 2 ^ 8 ≡ low * 128 / (128 + k) = grind (arith, nat_tests) in
-    rw (← whole, ← above) same
-
-pub fine_place : (scaled : ℕ) → 2 ^ 15 ≤ scaled → scaled ≤ 2 ^ 16
-    → (scaled * reciprocal (scaled / 2 ^ 8 - 128) / 2 ^ 48) % 2 ^ 8 ≡ scaled % 2 ^ 8 * 128 / (scaled / 2 ^ 8)
-unfolding all_below is_place
-fine_place scaled least most =
-    let k = scaled / 2 ^ 8 - 128 in
-    let row : all_below (is_place k) 256 ≡ true = at (λ k. all_below (is_place k) 256) 129 refl k (omega arith) in
-    place_is k (scaled / 2 ^ 8) (scaled % 2 ^ 8) scaled (at (is_place k) 256 row (scaled % 2 ^ 8) (omega arith)) (omega arith) (omega arith)
 
 -- ---- the power of 2 below a number
 
@@ -122,5 +102,3 @@ pub scaled_bounds : (x : ℕ) → 0 < x → x ≤ 2 ^ 16 → (2 ^ 15 ≤ x * 2 ^
 scaled_bounds x some within =
     let f = found x some within in
     rw f.is (bounds x (min (31 - count_leading_zeros 32 x) 15) (15 - min (31 - count_leading_zeros 32 x) 15) (omega (arith, f.small)) f.low f.high)
-
-pub ruleset log_steps = (fine_place, power_small, scaled_bounds)
