@@ -10,7 +10,7 @@ use Rattle.pgp_feed.specs.declared.store.Operation.TheVariants.{Skip, Put}
 use Rattle.pgp_feed.specs.Receipts.{entries_of, Holds}
 use Rattle.pgp_feed.specs.Stores.{content_of, applied}
 use Rattle.pgp_feed.specs.OneLog.{IsOneLog, SeesTold}
-use Rattle.pgp_feed.specs.Puts.{IsPut}
+use Rattle.pgp_feed.specs.kept.Puts.{IsPut}
 use Rattle.pgp_feed.proofs.Views.{holds_self, turns}
 
 pub put_told : (c : Content) (next : Receipt) (ops : List Operation) → IsPut c.told next ops → (fold applied c ops).told ≡ next

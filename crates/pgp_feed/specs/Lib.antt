@@ -3,11 +3,9 @@ pub mod Turns
 pub mod Receipts
 pub mod Stores
 pub mod OneLog
-pub mod Seats
 pub mod Taps
 pub mod Feeds
-pub mod Supplies
-pub mod Puts
+pub mod kept
 pub mod Appends
 pub mod Faults
 pub mod ReadFaults

@@ -5,7 +5,7 @@ ghost use Rattle.left_right.specs.Sides.{view};
 ghost use Rattle.pgp_log.specs.Fits.{fits};
 ghost use Rattle.pgp_feed.specs.Book.{length_word, turns_word};
 ghost use Rattle.pgp_feed.specs.Receipts.{entries_of, feed_of, IsWhole};
-ghost use Rattle.pgp_feed.specs.Puts.{IsPut};
+ghost use Rattle.pgp_feed.specs.kept.Puts.{IsPut};
 ghost use Rattle.pgp_feed.specs.Turns.{IsTurnAfter};
 
 use crate::law::Number;
@@ -16,6 +16,7 @@ use core::mem::{forget, replace_with};
 use left_right::writer::Writer;
 use logbook::Pen;
 use pgp_ids::Entry;
+use std::alloc::AllocError;
 use std::sync::{Arc, Wait};
 use warm::Warm;
 
@@ -58,18 +59,32 @@ impl Feed {
 
     /// Adds an entry that the log takes next. It waits for the readers that still read the copy to be changed.
     /// Where the entry can have no more owners, which is at 2^63 of them, it comes back.
-    ///
-    /// The exchange that adds it can't be undone. So the second owner is there before, and what follows takes no memory and is
-    /// tried until it succeeds.
     pub fn publish<R: Wait>(&mut self, rt: &R, entry: Arc<Entry>) -> Result<Receipt, Arc<Entry>>
         requires { fits (entries_of (told_of self.old)) (arc_value entry) ≡ None }
         ensures feed { feed_of (told_of self.new) ≡ feed_of (told_of self.old) }
         ensures published { MatchResult result (λ receipt. (receipt ≡ told_of self.new) × (entries_of receipt ≡ entries_of (told_of self.old) ++ arc_value entry ∷ [])) (λ back. (back ≡ entry) × (told_of self.new ≡ told_of self.old)) }
     {
-        let Ok(copy) = Arc::try_clone(&entry) else {
-            return Err(entry);
-        };
-        let told = self.told.grow(&self.word, &mut self.turn, &entry);
+        match self.publish_shared(rt, &entry) {
+            Ok(receipt) => Ok(receipt),
+            Err(AllocError) => Err(entry),
+        }
+    }
+
+    /// The same of an entry that stays with the caller too.
+    ///
+    /// The exchange that adds it can't be undone. So the second owner is there before, and what follows takes no memory and is
+    /// tried until it succeeds.
+    pub fn publish_shared<R: Wait>(
+        &mut self,
+        rt: &R,
+        entry: &Arc<Entry>,
+    ) -> Result<Receipt, AllocError>
+        requires { fits (entries_of (told_of self.old)) (arc_value entry.now) ≡ None }
+        ensures feed { feed_of (told_of self.new) ≡ feed_of (told_of self.old) }
+        ensures published { MatchResult result (λ receipt. (receipt ≡ told_of self.new) × (entries_of receipt ≡ entries_of (told_of self.old) ++ arc_value entry.now ∷ [])) (λ _. told_of self.new ≡ told_of self.old) }
+    {
+        let copy = Arc::try_clone(entry)?;
+        let told = self.told.grow(&self.word, &mut self.turn, entry);
         self.turn = next_turn(rt, &self.turns, &told);
         let operation = Operation::Put(copy, told.again());
         replace_with(

@@ -50,13 +50,14 @@ impl Store {
     ghost use Rattle.pgp_feed.specs.OneLog.{IsTold};
     ghost use Rattle.pgp_feed.specs.Stores.{content_of, applied};
 
-    // Adds an entry, with the receipt that names the log with it. There is room for it, unless the log is at its longest.
-    fn take_in(&mut self, entry: Arc<Entry>, told: &Receipt) -> Result<(), AllocError>
+    // Adds an entry, with the receipt that names the log with it. There is room for it, unless the log is at its longest: then it
+    // comes back.
+    fn take_in(&mut self, entry: Arc<Entry>, told: &Receipt) -> Result<(), Arc<Entry>>
         ensures room { length self.old.entries.items ≤ longest_log → IsOk result }
-        ensures taken { MatchResult result (λ _. content_of self.new ≡ applied (content_of self.old) (Put entry told.now)) (λ _. content_of self.new ≡ content_of self.old) }
+        ensures taken { MatchResult result (λ _. content_of self.new ≡ applied (content_of self.old) (Put entry told.now)) (λ back. (back ≡ entry) × (content_of self.new ≡ content_of self.old)) }
     {
-        if self.entries.push(entry).is_err() {
-            return Err(AllocError);
+        if let Err(failed) = self.entries.push(entry) {
+            return Err(failed.value);
         }
         self.told = told.again();
         Ok(())
@@ -116,7 +117,21 @@ impl Absorb<Operation> for Store {
     fn absorb_first(&mut self, operation: &Operation, _other: &Store) -> Result<(), AllocError> {
         match operation {
             Operation::Skip => Ok(()),
-            Operation::Put(entry, told) => self.take_in(Arc::try_clone(entry)?, told),
+            Operation::Put(entry, told) => match self.take_in(Arc::try_clone(entry)?, told) {
+                Ok(()) => Ok(()),
+                Err(_) => Err(AllocError),
+            },
+        }
+    }
+
+    // The entry goes from the operation into the copy, without a further owner.
+    fn absorb_second(&mut self, operation: Operation, _other: &Store) -> Result<(), Operation> {
+        match operation {
+            Operation::Skip => Ok(()),
+            Operation::Put(entry, told) => match self.take_in(entry, &told) {
+                Ok(()) => Ok(()),
+                Err(entry) => Err(Operation::Put(entry, told)),
+            },
         }
     }
 }

@@ -4,7 +4,7 @@ ghost use Rattle.std.specs.Ordering.{nat_cmp};
 ghost use Rattle.left_right.specs.Sides.{view};
 ghost use Rattle.pgp_log.specs.Log.{IsFrontOf};
 ghost use Rattle.pgp_feed.specs.Receipts.{entries_of, feed_of, Holds};
-ghost use Rattle.pgp_feed.specs.Seats.{Knows};
+ghost use Rattle.pgp_feed.specs.kept.Seats.{Knows};
 ghost use Rattle.pgp_feed.specs.Appends.{Appends};
 ghost use Rattle.pgp_feed.specs.ReadFaults.{IsTapFault};
 

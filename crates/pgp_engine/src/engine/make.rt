@@ -82,10 +82,7 @@ fn publish_all<R: Wait>(rt: &R, feed: &mut Feed, entries: &[Arc<Entry>]) -> Resu
     ensures log { OnOk result (entries_of (told_of feed.new) ≡ entries_of (told_of feed.old) ++ map arc_value entries.now) }
 {
     for entry in entries {
-        let copy = Arc::try_clone(entry)?;
-        let Ok(_) = feed.publish(rt, copy) else {
-            return Err(AllocError);
-        };
+        feed.publish_shared(rt, entry)?;
     }
     Ok(())
 }

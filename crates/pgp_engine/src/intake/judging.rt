@@ -117,10 +117,7 @@ pub(super) fn publish<R: Wait>(
     let Ok(entry) = Arc::new(alloc, entry) else {
         return Err(SubmitFault::Memory);
     };
-    let copy = Arc::try_clone(&entry)?;
-    let Ok(told) = feed.publish(rt, entry) else {
-        return Err(SubmitFault::Memory);
-    };
-    let _ = judge.take(&copy);
+    let told = feed.publish_shared(rt, &entry)?;
+    let _ = judge.take(&entry);
     Ok(told)
 }

@@ -3,9 +3,9 @@ ghost use Rattle.std.specs.Prelude.{◌≡◌, ◌≤◌, [], Some, drop, length
 ghost use Rattle.pgp_feed.specs.Receipts.{entries_of};
 ghost use Rattle.left_right.specs.Sides.{view};
 ghost use Rattle.pgp_feed.specs.Feeds.{told_of};
-ghost use Rattle.pgp_feed.specs.Puts.{IsPut};
+ghost use Rattle.pgp_feed.specs.kept.Puts.{IsPut};
 ghost use Rattle.pgp_feed.specs.Taps.{last_of};
-ghost use Rattle.pgp_feed.specs.Supplies.{IsSupplied};
+ghost use Rattle.pgp_feed.specs.kept.Supplies.{IsSupplied};
 ghost use Rattle.pgp_feed.specs.declared.fault.MakeFault.TheVariants.{Memory, NoReader};
 
 use super::warm::warmed;

@@ -1,5 +1,5 @@
 use Rattle.std.proofs.Common.{drop}
-use Rattle.pgp_feed.specs.Puts.{IsPut}
+use Rattle.pgp_feed.specs.kept.Puts.{IsPut}
 use Rattle.pgp_feed.proofs.feed.publish_queued.Given as goal
 
 abbrev pub invariant-loop : goal.invariant-loop
