@@ -16,13 +16,13 @@ pub use Rattle.std.specs.Prelude.{slice_get, ◌⊎◌}
 pub use Rattle.std.specs.Vec.{with_items}
 pub use Rattle.pgp_reasons.specs.Reported.{infos_in}
 pub use Rattle.pgp_compact.specs.Compacted.{are_needed_in, clean_spans, compacted, current_span, is_clean_from, is_needed, is_in_span, may_be_heard, needs_info, needs_report, past_spans, replaces, replaces_number, reports_in, span_of, starts_as_late, tells_last_clean, tells_last_of, tells_last_start, wants_clean}
-pub use Rattle.pgp_compact.specs.Course.{IsCourse, IsNext, IsOnCourse, LiesAt, ended, has_device, may_leave}
-pub use Rattle.pgp_compact.specs.Courses.{AreCourses, EachIsCourse, HasReport, IsCourseIn, IsReportOf, IsSameButCourse, started_by}
-pub use Rattle.pgp_compact.specs.Greatest.{IsGreatestOf, reaches}
-pub use Rattle.pgp_compact.specs.Later.{AreLastCleans, IsLater, clean_in, is_same_number, is_same_opening, is_same_sender, write_number, numbers, opening_at, sender_of, sent, told_opening, written}
+pub use Rattle.pgp_compact.specs.kept.Course.{IsCourse, IsNext, IsOnCourse, LiesAt, ended, may_leave}
+pub use Rattle.pgp_compact.specs.kept.Courses.{AreCourses, EachIsCourse, HasReport, IsCourseIn, IsReportOf, IsSameButCourse, started_by}
+pub use Rattle.pgp_compact.specs.kept.Greatest.{IsGreatestOf, reaches}
+pub use Rattle.pgp_compact.specs.kept.Later.{AreLastCleans, IsLater, clean_in, is_same_number, is_same_opening, is_same_sender, write_number, numbers, opening_at, sender_of, sent, told_opening, written}
 pub use Rattle.pgp_compact.specs.Needed.{are_needed, chosen, needed_of}
-pub use Rattle.pgp_compact.specs.Standing.{HasReached, opening_in, standing_at}
-pub use Rattle.pgp_compact.specs.Whole.{HasReadFront}
+pub use Rattle.pgp_compact.specs.kept.Standing.{HasReached, opening_in, standing_at}
+pub use Rattle.pgp_compact.specs.kept.Whole.{HasReadFront}
 pub use Rattle.pgp_compact.specs.declared.course.Course.{Course}
 pub use Rattle.pgp_compact.specs.declared.courses.Courses.{Courses}
 pub use Rattle.pgp_compact.specs.declared.later.Number.{Number}
@@ -69,7 +69,8 @@ pub use Rattle.pgp_log.proofs.FitsLemmas.{nothing_ahead}
 pub use Rattle.pgp_log.proofs.LogLemmas.{front-legal, legal-checked, legal-ascends, legal-induction, legal-last, legal-snoc}
 pub use Rattle.pgp_log.proofs.SharedLemmas.{map-next, next-front, ok-two}
 pub use Rattle.pgp_log.proofs.TakeLemmas.{epoch-inc, epoch-other, faultless-inc, faultless-tree, fits-faultless, incs-inc, incs-other, same-self}
-pub use Rattle.pgp_log.proofs.TouchLemmas.{none-moved, turned-parts}
+pub use Rattle.pgp_log.specs.Touch.{stands_in}
+pub use Rattle.pgp_log.proofs.TouchLemmas.{none-moved}
 pub use Rattle.pgp_log.specs.Fits.{entry_fault, fits, is_close, is_closed}
 pub use Rattle.pgp_log.specs.Log.{is_legal}
 pub use Rattle.pgp_log.specs.MapBefore.{IsMapBefore}

@@ -1,5 +1,5 @@
 -- What is kept of the groups that have reports, as entries are noted and maps follow.
-use Rattle.pgp_compact.proofs.Common.{AnyCode, AreCourses, EpochsAscend, Bool, Bor, Course, Courses, EachIsCourse, Entry, GroupPlace, History, IfNone, IfSome, Incremental, Info, IsCourse, IsCourseIn, IsNext, IsReportOf, IsSameButCourse, IsSilent, IsOnCourse, LiesAt, List, Membership, None, Option, OsdMap, Past, PgId, PrimaryFacts, Report, Some, Span, [], any-same, ap, arith, begun, can_write, cases_Bool, cases_eq, code_of, comes-with_pool, cond, current_first-goes_on, current_first-over, ended, ending_at, enough_of, epoch, epoch-snoc, eq-is_same, false, filter, fold-append, front-checked, get-last, get-set_other, get-set_same, get_or, get_or_from_slice_get, group_history, grown_with, passed_over, last_place, has_group, has_group-grows, has_group-same, history-begins-made, history-current, history-grows, history-last, incs, info_of, infos-new, infos-other, infos-same, inl, inr, is_by_place, is_recorded, is_same, is_same-eq, is_same_group, is_some, last-checked, left-unmoved, length, lies-as-before, has_device, map, map-append, map_fault, map_some, max, may_leave, may_lie_on, may_move, moves_none, nat_le, nat_lt, nat_tests, later_epoch, none-moved, not, epochs_ascend, past_intervals, past_intervals-goes_on, past_intervals-over, pool, pool_membership, primary_facts, raw_set-stays, refl, report_of, reports-other, reports-same, same-self, same_group, set, slice_get, slice_get_within, span_of, started_by, subst, suc, sym, temp-same, then_with, true, true≢false, turned-parts, unmade, unmoved-unplaced, wants_clean, ℕ, ◌+◌, ◌-◌, ◌&&◌, ◌++◌, ◌||◌, ◌∙◌, ◌∷◌, ◌≡◌, ◌≢◌}
+use Rattle.pgp_compact.proofs.Common.{AnyCode, AreCourses, EpochsAscend, Bool, Bor, Course, Courses, EachIsCourse, Entry, GroupPlace, History, IfNone, IfSome, Incremental, Info, IsCourse, IsCourseIn, IsNext, IsReportOf, IsSameButCourse, IsSilent, IsOnCourse, LiesAt, List, Membership, None, Option, OsdMap, Past, PgId, PrimaryFacts, Report, Some, Span, [], any-same, ap, arith, begun, can_write, cases_Bool, cases_eq, code_of, comes-with_pool, cond, current_first-goes_on, current_first-over, ended, ending_at, enough_of, epoch, epoch-snoc, eq-is_same, false, filter, fold-append, front-checked, get-last, get-set_other, get-set_same, get_or, get_or_from_slice_get, group_history, grown_with, passed_over, last_place, has_group, has_group-grows, has_group-same, history-begins-made, history-current, history-grows, history-last, incs, info_of, infos-new, infos-other, infos-same, inl, inr, is_by_place, is_recorded, is_same, is_same-eq, is_same_group, is_some, last-checked, left-unmoved, length, lies-as-before, map, map-append, map_fault, map_some, max, may_leave, may_lie_on, may_move, moves_none, nat_le, nat_lt, nat_tests, later_epoch, none-moved, not, epochs_ascend, past_intervals, past_intervals-goes_on, past_intervals-over, pool, pool_membership, primary_facts, raw_set-stays, refl, report_of, reports-other, reports-same, same-self, same_group, set, slice_get, slice_get_within, span_of, started_by, stands_in, subst, suc, sym, temp-same, then_with, true, true≢false, unmade, unmoved-unplaced, wants_clean, ℕ, ◌+◌, ◌-◌, ◌&&◌, ◌++◌, ◌||◌, ◌∙◌, ◌∷◌, ◌≡◌, ◌≢◌}
 use Rattle.std.specs.HashMap as hash
 use Rattle.pgp_ids.specs.declared.entry.Entry.TheVariants as entry
 use Rattle.pgp_ids.specs.declared.pool.PoolSpec.{PoolSpec}
@@ -11,12 +11,12 @@ if-able can recorded since = grind (arith, nat_tests, cases_Bool can, cases_Bool
 
 -- ---- a group that stays where it lies
 
-may_lie-there : (incs : List Incremental) (pg : PgId) (place : GroupPlace) → LiesAt incs pg place → (osd : ℕ) → may_lie_on incs pg osd ≡ has_device place osd
+may_lie-there : (incs : List Incremental) (pg : PgId) (place : GroupPlace) → LiesAt incs pg place → (osd : ℕ) → may_lie_on incs pg osd ≡ stands_in place.raw place.temp osd
 may_lie-there incs pg place lies osd = grind (arith, map_some)
 
 pub unmoved : (incs : List Incremental) (inc : Incremental) (pg : PgId) (place : GroupPlace) → map_fault incs inc ≡ None → LiesAt incs pg place → may_leave place pg inc ≡ false → may_move incs inc pg ≡ false
 unmoved incs inc pg place fine lies stays =
-    grind (arith, nat_tests, unmade, map_some, any-same, may_lie-there, turned-parts, unmoved-unplaced)
+    grind (arith, nat_tests, unmade, map_some, any-same, may_lie-there, unmoved-unplaced)
 
 lies-still : (incs : List Incremental) (inc : Incremental) (pg : PgId) (place : GroupPlace) → map_fault incs inc ≡ None → may_move incs inc pg ≡ false → LiesAt incs pg place → LiesAt (then_with incs inc) pg place
 lies-still incs inc pg place fine still lies =

@@ -15,9 +15,9 @@ ghost use Rattle.pgp_group.specs.Heard.{les};
 ghost use Rattle.pgp_log.specs.Log.{is_legal};
 ghost use Rattle.pgp_log.specs.MapBefore.{IsMapBefore};
 ghost use Rattle.pgp_compact.specs.Compacted.{is_in_span, past_spans, wants_clean};
-ghost use Rattle.pgp_compact.specs.Course.{IsCourse, IsNext, IsOnCourse, CanGoOn, LiesAt, ended};
-ghost use Rattle.pgp_compact.specs.Courses.{started_by};
-ghost use Rattle.pgp_compact.specs.Standing.{HasReached, opening_in, standing_at};
+ghost use Rattle.pgp_compact.specs.kept.Course.{IsCourse, IsNext, IsOnCourse, CanGoOn, LiesAt, ended};
+ghost use Rattle.pgp_compact.specs.kept.Courses.{started_by};
+ghost use Rattle.pgp_compact.specs.kept.Standing.{HasReached, opening_in, standing_at};
 ghost use Rattle.pgp_compact.specs.declared.group_place.GroupPlace.{GroupPlace as AnyPlace};
 
 use super::group_place::GroupPlace;

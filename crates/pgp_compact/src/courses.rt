@@ -7,8 +7,8 @@ ghost use Rattle.pgp_ids.specs.declared.incremental.Incremental.{Incremental as 
 ghost use Rattle.pgp_map.specs.MapFault.{then_with};
 ghost use Rattle.pgp_group.specs.GroupOf.{IsSilent};
 ghost use Rattle.pgp_log.specs.MapBefore.{IsMapBefore};
-ghost use Rattle.pgp_compact.specs.Course.{IsNext};
-ghost use Rattle.pgp_compact.specs.Courses.{AreCourses, AreSomeCourses, CanAllGoOn, EachIsCourse, IsCourseIn, IsReportOf, IsSameButCourse};
+ghost use Rattle.pgp_compact.specs.kept.Course.{IsNext};
+ghost use Rattle.pgp_compact.specs.kept.Courses.{AreCourses, AreSomeCourses, CanAllGoOn, EachIsCourse, IsCourseIn, IsReportOf, IsSameButCourse};
 
 use super::course::Course;
 use pgp_ids::{Entry, Epoch, Incremental, PgId};

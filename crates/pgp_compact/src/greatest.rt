@@ -1,7 +1,7 @@
 //! The greatest number that was noted for each key.
 
 ghost use Rattle.std.specs.Prelude.{◌≡◌, ◌+◌, [], ◌∷◌, List, ℕ, OnOk};
-ghost use Rattle.pgp_compact.specs.Greatest.{IsGreatestOf, reaches};
+ghost use Rattle.pgp_compact.specs.kept.Greatest.{IsGreatestOf, reaches};
 
 use std::alloc::{AllocError, Global};
 use std::collections::HashMap;

@@ -1,18 +1,17 @@
 //! Where a group lies.
 
-ghost use Rattle.std.specs.List.{list_any};
-ghost use Rattle.std.specs.Prelude.{◌≡◌, ◌||◌, List};
+ghost use Rattle.std.specs.Prelude.{◌≡◌, List};
 ghost use Rattle.pgp_ids.specs.declared.incremental.Incremental.{Incremental as AnyIncremental};
 ghost use Rattle.pgp_map.specs.Held.{HasGroup};
 ghost use Rattle.pgp_map.specs.MapFault.{then_with};
 ghost use Rattle.pgp_map.specs.MapOf.{Says};
 ghost use Rattle.pgp_log.specs.RawSets.{IsRawSet};
-ghost use Rattle.pgp_compact.specs.Course.{LiesAt, IsNext, has_device, may_leave};
+ghost use Rattle.pgp_compact.specs.kept.Course.{LiesAt, IsNext, may_leave};
 
-use pgp_ids::{Incremental, Membership, OsdId, Osds, PgId};
-use pgp_log::{changes_temp, moves};
+use pgp_ids::{Incremental, Membership, Osds, PgId};
+use pgp_log::{changes_temp, moves, turns_place};
 use pgp_map::OsdMap;
-use pgp_sets::{filter, has_osd, raw};
+use pgp_sets::{filter, raw};
 
 /// Where a group lies by a map, and on what that depends.
 #[derive(Drop)]
@@ -63,24 +62,6 @@ impl GroupPlace {
     pub(crate) fn may_leave(&self, pg: &PgId, inc: &Incremental) -> bool
         ensures { result ≡ may_leave self.now pg.now inc.now }
     {
-        moves(inc, pg.pool)
-            || changes_temp(inc, pg)
-            || self.lies_on_any(inc.up.as_slice())
-            || self.lies_on_any(inc.down.as_slice())
-            || self.lies_on_any(inc.gone.as_slice())
-    }
-
-    /// Whether the group may lie on one of these devices.
-    fn lies_on_any(&self, osds: &[OsdId]) -> bool
-        ensures { result ≡ list_any (has_device self.now) osds.now }
-    {
-        osds.iter().any(|osd| self.lies_on(*osd))
-    }
-
-    /// Whether the group may lie on the device: it stands in the raw set or in pg_temp.
-    fn lies_on(&self, osd: OsdId) -> bool
-        ensures { result ≡ has_device self.now osd }
-    {
-        has_osd(self.raw.as_slice(), osd) || has_osd(self.temp.as_slice(), osd)
+        moves(inc, pg.pool) || changes_temp(inc, pg) || turns_place(inc, &self.raw, &self.temp)
     }
 }

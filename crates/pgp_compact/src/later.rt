@@ -9,8 +9,8 @@ ghost use Rattle.pgp_group.specs.Heard.{les, is_counted};
 ghost use Rattle.pgp_group.specs.Present.{IsPresent};
 ghost use Rattle.pgp_reasons.specs.Reported.{infos_in};
 ghost use Rattle.pgp_compact.specs.Compacted.{reports_in, may_be_heard, tells_last_start, tells_last_clean, needs_info, needs_report, replaces_number};
-ghost use Rattle.pgp_compact.specs.Later.{AreLastCleans, IsLater, sender_of, opening_at, write_number};
-ghost use Rattle.pgp_compact.specs.Standing.{standing_at, opening_in};
+ghost use Rattle.pgp_compact.specs.kept.Later.{AreLastCleans, IsLater, sender_of, opening_at, write_number};
+ghost use Rattle.pgp_compact.specs.kept.Standing.{standing_at, opening_in};
 
 use super::course::Standing;
 use super::greatest::Greatest;

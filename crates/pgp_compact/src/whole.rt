@@ -9,10 +9,10 @@ ghost use Rattle.pgp_map.specs.Map.{epoch};
 ghost use Rattle.pgp_group.specs.Entries.{incs_of};
 ghost use Rattle.pgp_group.specs.GroupLog.{group_in};
 ghost use Rattle.pgp_log.specs.Log.{is_legal};
-ghost use Rattle.pgp_compact.specs.Courses.{HasReport};
-ghost use Rattle.pgp_compact.specs.Later.{AreLastCleans};
-ghost use Rattle.pgp_compact.specs.Standing.{standing_at};
-ghost use Rattle.pgp_compact.specs.Whole.{CanRead, HasReadFront, IsJudged, IsReadWhole};
+ghost use Rattle.pgp_compact.specs.kept.Courses.{HasReport};
+ghost use Rattle.pgp_compact.specs.kept.Later.{AreLastCleans};
+ghost use Rattle.pgp_compact.specs.kept.Standing.{standing_at};
+ghost use Rattle.pgp_compact.specs.kept.Whole.{CanRead, HasReadFront, IsJudged, IsReadWhole};
 
 use super::course::Standing;
 use super::courses::Courses;

@@ -1,8 +1,8 @@
 -- What an incremental changes at all (this project's own choice).
-use Rattle.std.specs.Prelude.{length, Bool, ◌&&◌, ◌||◌, not, ◌==◌}
+use Rattle.std.specs.Prelude.{ℕ, List, Option, length, Bool, ◌&&◌, ◌||◌, not, ◌==◌}
 use Rattle.pgp_ids.specs.declared.incremental.Incremental.{Incremental}
 use Rattle.pgp_ids.specs.declared.pg_id.PgId.{PgId}
-use Rattle.pgp_group.specs.Touched.{changes_pool, changes_temp, moves_all}
+use Rattle.pgp_group.specs.Touched.{changes_pool, changes_temp, has_osd, moves_all}
 
 -- the incremental boots no device, takes none down and destroys none
 abbrev pub turns_none : Incremental → Bool
@@ -27,6 +27,10 @@ changes_placement inc pg = moves_all inc || changes_pool inc pg.pool || changes_
 -- the incremental may change where some group lies, whatever becomes of devices
 abbrev pub changes_placements : Incremental → Bool
 changes_placements inc = moves_all inc || not (changes_no_pool inc)
+
+-- the device stands in the raw set or in the pg_temp list
+abbrev pub stands_in : List (Option ℕ) → List (Option ℕ) → ℕ → Bool
+stands_in raw temp osd = has_osd osd raw || has_osd osd temp
 
 -- the incremental changes the epoch alone
 abbrev pub changes_nothing : Incremental → Bool

@@ -24,5 +24,5 @@ pub use place::ObjectPlace;
 pub use raw_sets::RawSets;
 pub use touch::{
     changes_no_pool, changes_nothing, changes_placement, changes_placements, changes_pool,
-    changes_temp, moves, moves_all, moves_none,
+    changes_temp, moves, moves_all, moves_none, stands_in, turns_place,
 };

@@ -2,11 +2,12 @@
 
 ghost use Rattle.std.specs.List.{list_any};
 ghost use Rattle.std.specs.Prelude.{◌≡◌, nat_eq};
-ghost use Rattle.pgp_log.specs.Touch.{changes_no_pool, changes_placement, changes_placements, moves_none, changes_nothing};
-ghost use Rattle.pgp_group.specs.Touched.{changes_pool, changes_temp, moves_all};
+ghost use Rattle.pgp_log.specs.Touch.{changes_no_pool, changes_placement, changes_placements, moves_none, changes_nothing, stands_in};
+ghost use Rattle.pgp_group.specs.Touched.{changes_pool, changes_temp, moves_all, turned_devices};
 ghost use Rattle.pgp_sets.specs.Sets.{moves};
 
-use pgp_ids::{Incremental, PgId, PoolId, PoolSizes, PoolSpec};
+use pgp_ids::{Incremental, OsdId, Osds, PgId, PoolId, PoolSizes, PoolSpec};
+use pgp_sets::has_osd;
 
 /// The incremental may change where the group lies, whatever becomes of devices.
 pub fn changes_placement(inc: &Incremental, pg: &PgId) -> bool
@@ -55,6 +56,29 @@ pub fn changes_temp(inc: &Incremental, pg: &PgId) -> bool
     ensures { result ≡ changes_temp inc.now pg.now }
 {
     inc.temp.as_slice().iter().any(|given| given.pg == *pg)
+}
+
+/// The incremental boots, takes down or destroys a device of the group's raw set or of its pg_temp list.
+pub fn turns_place(inc: &Incremental, raw: &Osds, temp: &Osds) -> bool
+    ensures { result ≡ list_any (stands_in raw.now temp.now) (turned_devices inc.now) }
+{
+    any_stands_in(inc.up.as_slice(), raw, temp)
+        || any_stands_in(inc.down.as_slice(), raw, temp)
+        || any_stands_in(inc.gone.as_slice(), raw, temp)
+}
+
+/// One of the devices stands in the raw set or in the pg_temp list.
+fn any_stands_in(osds: &[OsdId], raw: &Osds, temp: &Osds) -> bool
+    ensures { result ≡ list_any (stands_in raw.now temp.now) osds.now }
+{
+    osds.iter().any(|osd| stands_in(raw, temp, *osd))
+}
+
+/// The device stands in the group's raw set or in its pg_temp list: the group may lie on it.
+pub fn stands_in(raw: &Osds, temp: &Osds, osd: OsdId) -> bool
+    ensures { result ≡ stands_in raw.now temp.now osd }
+{
+    has_osd(raw.as_slice(), osd) || has_osd(temp.as_slice(), osd)
 }
 
 /// The incremental moves no group: it changes no placement, and turns no device.

@@ -4,6 +4,8 @@ use Rattle.std.proofs.lemmas.Option.{slice_get_cases}
 use Rattle.pgp_ids.specs.declared.entry.Entry.TheVariants as entry
 use Rattle.pgp_shard.specs.declared.row.Changes.{Changes}
 use Rattle.pgp_shard.proofs.OsdFilterLemmas.{shared}
+use Rattle.pgp_lists.proofs.Lists.{any-same}
+use Rattle.pgp_log.specs.Touch.{stands_in}
 use Rattle.pgp_log.proofs.TouchLemmas.{no-pools, nothing-placed}
 use Rattle.pgp_shard.proofs.StillLemmas.{kept-stays, kept-unseen}
 
@@ -63,10 +65,13 @@ placed-by : {X Y : Type 0} (f : X → Y) (test : Y → Bool) (found : Option X) 
 placed-by f test found y is = grind arith
 
 -- the group may lie on the devices of its raw set and of its pg_temp list
-lies-there : (log : List Entry) (kept : KeptGroup) (osd : ℕ) → IsKeptOf log kept → may_lie_on (incs_of log) kept.pg osd ≡ (has_osd osd kept.raw || has_osd osd kept.temp)
+pub lies-there : (log : List Entry) (kept : KeptGroup) (osd : ℕ) → IsKeptOf log kept → may_lie_on (incs_of log) kept.pg osd ≡ stands_in kept.raw kept.temp osd
 lies-there log kept osd is =
     ap (λ b. b || has_osd osd (temp (incs_of log) kept.pg)) (placed-by (λ made. raw_set (incs_of log) made kept.pg) (has_osd osd) (pool (incs_of log) kept.pg.pool) kept.raw is.raw_is)
     ∙ ap (λ (l : List (Option ℕ)). has_osd osd kept.raw || has_osd osd l) (sym is.temp_is)
+
+pub any-lies-there : (log : List Entry) (kept : KeptGroup) (osds : List ℕ) → IsKeptOf log kept → list_any (may_lie_on (incs_of log) kept.pg) osds ≡ list_any (stands_in kept.raw kept.temp) osds
+any-lies-there log kept osds is = any-same (may_lie_on (incs_of log) kept.pg) (stands_in kept.raw kept.temp) osds (λ osd. lies-there log kept osd is)
 
 one-of : {P : Type 0} (a b : Bool) → (a || b) ≡ true → (a ≡ true → P) → (b ≡ true → P) → P
 one-of true b is here there = here refl

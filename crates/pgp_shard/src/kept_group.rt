@@ -12,7 +12,7 @@ ghost use Rattle.pgp_map.specs.Pools.{has_group, temp};
 ghost use Rattle.pgp_map.specs.declared.map.OsdMap.{OsdMap as AnyMap};
 ghost use Rattle.pgp_group.specs.Entries.{inc_of, incs_of};
 ghost use Rattle.pgp_group.specs.GroupOf.{TellsNothingAhead};
-ghost use Rattle.pgp_group.specs.Touched.{is_touched, has_to_do_with, may_lie_on, may_move};
+ghost use Rattle.pgp_group.specs.Touched.{is_touched, has_to_do_with, may_move};
 ghost use Rattle.pgp_shard.specs.kept.KeptGroup.{IsKeptOf, OfKeptLog, IsStep, CanStep, StepsOn, IsTouchedBy, IsWorkedOut, KeepsView, is_newer, lacks_view};
 ghost use Rattle.pgp_shard.specs.kept.Rows.{IsRowOf};
 ghost use Rattle.pgp_log.specs.Log.{epoch_of};
@@ -23,9 +23,9 @@ use super::osd_filter::OsdFilter;
 use super::row::Row;
 use pgp_group::Group;
 use pgp_ids::{DeviceEpoch, Entry, Epoch, Incremental, OsdId, Osds, PgId, View};
-use pgp_log::{MapBefore, changes_placement, changes_pool, changes_temp};
+use pgp_log::{MapBefore, changes_placement, changes_pool, changes_temp, stands_in, turns_place};
 use pgp_map::OsdMap;
-use pgp_sets::{filter, has_osd, raw};
+use pgp_sets::{filter, raw};
 use std::alloc::{AllocError, Global};
 
 /// A group, as the entries so far tell of it.
@@ -171,36 +171,7 @@ impl KeptGroup {
         before.places_anew(after, inc, &self.pg, self.raw.as_slice())
             || changes_pool(inc, self.pg.pool)
             || changes_temp(inc, &self.pg)
-            || self.lies_on_turned(inc)
-    }
-
-    /// Whether the group may lie on a device that the incremental boots, takes down or destroys.
-    fn lies_on_turned(&self, inc: &Incremental) -> bool
-        ensures { OfKeptLog self.now (λ log. let lies = may_lie_on (incs_of log) self.now.pg in
-            result ≡ (list_any lies inc.now.up || list_any lies inc.now.down || list_any lies inc.now.gone)) }
-    {
-        self.lies_on_any(inc.up.as_slice())
-            || self.lies_on_any(inc.down.as_slice())
-            || self.lies_on_any(inc.gone.as_slice())
-    }
-
-    /// Whether the group may lie on one of these devices.
-    fn lies_on_any(&self, osds: &[OsdId]) -> bool
-        ensures { OfKeptLog self.now (λ log. result ≡ list_any (may_lie_on (incs_of log) self.now.pg) osds.now) }
-    {
-        for osd in osds {
-            if self.lies_on(*osd) {
-                return true;
-            }
-        }
-        false
-    }
-
-    /// Whether the group may lie on the device: it stands in the raw set or in pg_temp.
-    fn lies_on(&self, osd: OsdId) -> bool
-        ensures { OfKeptLog self.now (λ log. result ≡ may_lie_on (incs_of log) self.now.pg osd) }
-    {
-        has_osd(self.raw.as_slice(), osd) || has_osd(self.temp.as_slice(), osd)
+            || turns_place(inc, &self.raw, &self.temp)
     }
 
     /// Whether the incremental touches the group.
@@ -252,7 +223,7 @@ impl KeptGroup {
     fn knows(&self, osd: OsdId) -> bool
         ensures { OfKeptLog self.now (λ log. result ≡ has_to_do_with log self.now.pg osd) }
     {
-        self.lies_on(osd) || self.group.names(osd)
+        stands_in(&self.raw, &self.temp, osd) || self.group.names(osd)
     }
 
     /// Takes a report of the group, or another entry that brings no map. `epoch` is the current one. After an `Err` it is of no

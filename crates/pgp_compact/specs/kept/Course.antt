@@ -16,8 +16,9 @@ use Rattle.pgp_map.specs.Pools.{has_group, temp}
 use Rattle.pgp_map.specs.declared.map.OsdMap.{OsdMap}
 use Rattle.pgp_sets.specs.Sets.{membership, moves}
 use Rattle.pgp_group.specs.GroupHistory.{group_history, primary_facts}
-use Rattle.pgp_group.specs.Touched.{changes_temp, has_osd}
+use Rattle.pgp_group.specs.Touched.{changes_temp, turned_devices}
 use Rattle.pgp_log.specs.RawSets.{IsRawSet}
+use Rattle.pgp_log.specs.Touch.{stands_in}
 use Rattle.pgp_compact.specs.Compacted.{past_spans}
 use Rattle.pgp_compact.specs.declared.course.Course.{Course}
 use Rattle.pgp_compact.specs.declared.group_place.GroupPlace.{GroupPlace}
@@ -31,16 +32,12 @@ pub record LiesAt (incs : List Incremental) (pg : PgId) (place : GroupPlace) : T
   pub temp_is : place.temp ≡ temp incs pg
   pub members_are : membership incs pg ≡ Some place.members
 
--- the device stands in the raw set or in pg_temp
-abbrev pub has_device : GroupPlace → ℕ → Bool
-has_device place osd = has_osd osd place.raw || has_osd osd place.temp
-
 -- the group, which lies so, may lie elsewhere by the incremental
 abbrev pub may_leave : GroupPlace → PgId → Incremental → Bool
 may_leave place pg inc =
     moves inc pg.pool
     || changes_temp inc pg
-    || (list_any (has_device place) inc.up || list_any (has_device place) inc.down || list_any (has_device place) inc.gone)
+    || list_any (stands_in place.raw place.temp) (turned_devices inc)
 
 -- ---- the group's intervals
 

@@ -8,7 +8,7 @@ use Rattle.pgp_map.specs.Pools.{is_same_group}
 use Rattle.pgp_map.specs.declared.map.OsdMap.{OsdMap}
 use Rattle.pgp_group.specs.GroupOf.{IsSilent}
 use Rattle.pgp_reasons.specs.Reported.{infos_in}
-use Rattle.pgp_compact.specs.Course.{IsCourse, IsNext}
+use Rattle.pgp_compact.specs.kept.Course.{IsCourse, IsNext}
 use Rattle.pgp_compact.specs.declared.course.Course.{Course}
 use Rattle.pgp_compact.specs.declared.courses.Courses.{Courses}
 

@@ -10,8 +10,8 @@ use Rattle.pgp_ids.specs.declared.report.Report.{Report}
 use Rattle.pgp_map.specs.Pools.{is_same_group}
 use Rattle.pgp_group.specs.Entries.{infos_of, reports_of}
 use Rattle.pgp_group.specs.GroupLog.{group_in}
-use Rattle.pgp_compact.specs.Greatest.{IsGreatestOf}
-use Rattle.pgp_compact.specs.Standing.{opening_in}
+use Rattle.pgp_compact.specs.kept.Greatest.{IsGreatestOf}
+use Rattle.pgp_compact.specs.kept.Standing.{opening_in}
 use Rattle.pgp_compact.specs.declared.later.Sender.{Sender}
 use Rattle.pgp_compact.specs.declared.later.Opening.{Opening}
 use Rattle.pgp_compact.specs.declared.later.Number.{Number}

@@ -6,8 +6,8 @@ use Rattle.pgp_map.specs.MapOf.{IsMapOf}
 use Rattle.pgp_group.specs.Entries.{incs_of}
 use Rattle.pgp_log.specs.Log.{is_legal}
 use Rattle.pgp_compact.specs.Compacted.{is_needed}
-use Rattle.pgp_compact.specs.Courses.{AreCourses}
-use Rattle.pgp_compact.specs.Later.{IsLater}
+use Rattle.pgp_compact.specs.kept.Courses.{AreCourses}
+use Rattle.pgp_compact.specs.kept.Later.{IsLater}
 use Rattle.pgp_compact.specs.declared.later.Later.{Later}
 use Rattle.pgp_compact.specs.declared.whole.Whole.{Whole}
 

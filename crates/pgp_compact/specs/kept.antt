@@ -1,0 +1,7 @@
+-- What compaction keeps while it reads a log. Contracts of private calls cite it.
+pub mod Greatest
+pub mod Standing
+pub mod Course
+pub mod Courses
+pub mod Later
+pub mod Whole
