@@ -14,7 +14,7 @@ use Rattle.pgp_core.specs.Lines.{is_blank}
 use Rattle.pgp_core.specs.Script.{longest_line, MayMeet}
 use Rattle.pgp_core.specs.Line.{KeptBy, HoldsLine}
 use Rattle.pgp_core.specs.WrittenFor.{PutsText, PutsLine, MayLack}
-use Rattle.pgp_core.specs.declared.line.Fate.TheVariants.{Kept, TooLong, NoMemory}
+use Rattle.pgp_core.specs.declared.line.Fate.TheVariants.{TooLong, NoMemory}
 use Rattle.pgp_core.specs.declared.line.LineBuffer.{LineBuffer}
 use Rattle.pgp_core.specs.declared.answer.NoReply.{NoReply}
 use Rattle.pgp_core.specs.declared.answer.NoReply.TheVariants as why
@@ -48,13 +48,6 @@ pub is-short : (buffer : LineBuffer) (few : ℕ) → buffer.fate ≡ NoMemory fe
 is-short buffer few fate some line holds =
     let kept : (length line ≡ few) × (few ≤ longest_line) = subst (λ f. KeptBy f buffer.bytes.items line) fate holds.kept in
     (sym holds.blank ∙ some, omega (arith, kept.0, kept.1))
-
--- what holds of the bytes that are kept holds of the line
-pub kept-whole : (buffer : LineBuffer) (P : List ℕ → Type 0) → buffer.fate ≡ Kept → (length buffer.bytes.items ≤ longest_line → P buffer.bytes.items)
-    → (line : List ℕ) → HoldsLine buffer line → P line
-kept-whole buffer P fate there line holds =
-    let kept : (buffer.bytes.items ≡ line) × (length line ≤ longest_line) = subst (λ f. KeptBy f buffer.bytes.items line) fate holds.kept in
-    (subst (λ l. length l ≤ longest_line → P l) kept.0 there) kept.1
 
 -- what its command can have no memory for, the line can have none for
 line-meets : (format : Format) (line : List ℕ) (command : Command) → is_blank line ≡ false → length line ≤ longest_line → command_of format line ≡ Ok command → MayMeet format (Some (want_of command)) line

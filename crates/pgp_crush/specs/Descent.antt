@@ -43,10 +43,6 @@ path tree x rank (suc levels) (Some b) = elim (choice x (rank_at rank b) b) [
 abbrev pub step_of : ℤ → ℕ → Step
 step_of item r = record { item = item; r = r }
 
--- the first steps of a way down that begins with this one
-abbrev pub path_by : List Bucket → ℕ → Rank → ℕ → Step → List Step
-path_by tree x rank levels s = s ∷ path tree x rank levels (bucket_at tree s.item)
-
 -- what a step is at which a way down stops, if there is one: an item of the type sought, or a device before it
 abbrev pub stop_at : List Bucket → ℕ → Option Step → Descent
 stop_at tree kind None = Empty

@@ -14,5 +14,5 @@ pub mod Worked
 pub mod Examples
 pub mod Chosen
 pub mod TreeFault
-pub mod Indexed
+pub mod kept
 pub mod Tree

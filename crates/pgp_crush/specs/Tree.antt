@@ -2,7 +2,7 @@
 use Rattle.std.specs.Prelude.{List, map}
 use Rattle.pgp_crush.specs.declared.tree.Tree.TheInside.{Inside}
 use Rattle.pgp_crush.specs.Bucket.{Bucket, bucket_of}
-use Rattle.pgp_crush.specs.Indexed.{IsIndexed}
+use Rattle.pgp_crush.specs.kept.Indexed.{IsIndexed}
 
 -- the buckets of a tree, in the order in which they were given
 abbrev pub buckets_of : Inside → List Bucket

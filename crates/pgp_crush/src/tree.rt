@@ -3,7 +3,7 @@
 ghost use Rattle.std.specs.Prelude.{◌≡◌, ◌<◌, ◌^◌, ◌⊎◌, map, sum, true, Some, None, Err, IfSome, IfOk, IfErr, OnOk};
 ghost use Rattle.std.specs.Option.{option_copied, option_map};
 ghost use Rattle.pgp_crush.specs.Bucket.{bucket_of, bucket_at, root_of};
-ghost use Rattle.pgp_crush.specs.Indexed.{IsIndexed};
+ghost use Rattle.pgp_crush.specs.kept.Indexed.{IsIndexed};
 ghost use Rattle.pgp_crush.specs.TreeFault.{tree_fault, may_lack_memory};
 
 use super::fault::TreeFault;

@@ -21,17 +21,17 @@ pub use Rattle.std.specs.Vec.{vec_capacity, vec_len}
 pub use Rattle.pgp_code.specs.AnyCode.{enough_of, enough_of-mono, is_by_place}
 pub use Rattle.pgp_code.specs.Pool.{code_of}
 pub use Rattle.pgp_code.specs.declared.any.AnyCode.{AnyCode}
-pub use Rattle.pgp_group.specs.DeviceFacts.{AreOfMap, GivesEach, HasEachMember, allows_turn, has_noted, renoted, renoted_all, status_noted, status_up}
+pub use Rattle.pgp_group.specs.kept.DeviceFacts.{AreOfMap, GivesEach, HasEachMember, allows_turn, has_noted, renoted, renoted_all, status_noted, status_up}
 pub use Rattle.pgp_group.specs.Entries.{inc_of, incs_of, infos_of, report_of, reports_of}
-pub use Rattle.pgp_group.specs.Parts.{AreHeard, IsBestCopy}
+pub use Rattle.pgp_group.specs.kept.Parts.{AreHeard, IsBestCopy}
 pub use Rattle.pgp_group.specs.GroupHistory.{EpochsAscend, group_history, grown_with, history_of, made_at, makes, passed_over, primary_facts, state_at_epoch, state_with, states_from}
 pub use Rattle.pgp_group.specs.GroupLog.{GroupLog, cleans, group_in, group_with, incs, infos, reports}
 pub use Rattle.pgp_group.specs.GroupOf.{IsGroupOf, IsSilent, Keeps}
 pub use Rattle.pgp_group.specs.Heard.{IsLastOfMember, counted_infos, has_member, heard, is_counted, last_of_each_member, les, reported}
-pub use Rattle.pgp_group.specs.KeptInfos.{TakesInfo, KeepsInfos}
-pub use Rattle.pgp_group.specs.KeptNames.{KeepsNames}
-pub use Rattle.pgp_group.specs.KeptPrior.{IsAbreast, IsReckoned, KeepsPrior, basis_of, basis_with}
-pub use Rattle.pgp_group.specs.KeptReports.{AreCounted, AreLogsOf, IsReportedBy, KeepsReports, counts_by, member_entries, is_of, member_log, reported_in}
+pub use Rattle.pgp_group.specs.kept.KeptInfos.{TakesInfo, KeepsInfos}
+pub use Rattle.pgp_group.specs.kept.KeptNames.{KeepsNames}
+pub use Rattle.pgp_group.specs.kept.KeptPrior.{IsAbreast, IsReckoned, KeepsPrior, basis_of, basis_with}
+pub use Rattle.pgp_group.specs.kept.KeptReports.{AreCounted, AreLogsOf, IsReportedBy, KeepsReports, counts_by, member_entries, is_of, member_log, reported_in}
 pub use Rattle.pgp_group.specs.Later.{AreSentBy, IsAfter}
 pub use Rattle.pgp_group.specs.Peering.{acting_members, best, has_whole_log, if_whole, is_peer, leader, others_heard, past, peer_missing, peer_states, peers, present_members, prior, up_members, whole_best}
 pub use Rattle.pgp_group.specs.Present.{IsPresent}

@@ -150,7 +150,7 @@ kind-sized : (sizes : Option PoolSizes) (made : PoolSpec) → (with_sizes sizes 
 kind-sized None made = refl
 kind-sized (Some sizes) made = refl
 
-groups-sized : (sizes : Option PoolSizes) (made : PoolSpec) → (with_sizes sizes made).pg_num ≡ made.pg_num
+pub groups-sized : (sizes : Option PoolSizes) (made : PoolSpec) → (with_sizes sizes made).pg_num ≡ made.pg_num
 groups-sized None made = refl
 groups-sized (Some sizes) made = refl
 

@@ -1,6 +1,6 @@
 -- What an inbox keeps, as more comes and as it is looked at.
 use Rattle.pgp_group.proofs.Common.{◌≡◌, ℕ, ◌≤◌, List, [], ◌∷◌, ◌++◌, false, nat_lt, length, take, drop, length-append, append-nil, arith, All, All-append, All-contains, All-take, All-weaker, Contains, or_parts, nat_tests, take_all, take-append-le, ◌∙◌}
-use Rattle.pgp_group.specs.InboxOf.{Arrivals, IsInboxOf, with_arrival}
+use Rattle.pgp_group.specs.kept.InboxOf.{Arrivals, IsInboxOf, with_arrival}
 
 -- these items more, each of which was sent in this epoch or before, where none came ahead
 pub record Grows {X : Type 0} (stamp : X → ℕ) (more : List X) (now : ℕ) (old kept : Arrivals X) : Type 0 where

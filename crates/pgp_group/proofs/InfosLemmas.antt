@@ -2,8 +2,8 @@
 use Rattle.pgp_group.proofs.Common.{◌≡◌, ℕ, ◌<◌, ◌≤◌, List, [], ◌∷◌, ◌++◌, Some, Bool, true, false, ◌&&◌, length, map, fold, max, take, drop, append-nil, append_assoc, refl, ap, sym, ◌∙◌, subst, arith, All-contains, Contains, filter, and_parts, eqb-true, nat_tests, take-append-drop, map-append, filter-append, fold-append, AnyCode, is_same_member, Incremental, Member, Membership, PgId, Info, HasDistinctMembers, with_infos, History, filter-contains, epoch, EpochsAscend, grown_with, passed_over, primary_facts, group_history, GroupLog, incs, infos, has_member, heard, last_of_each_member, KeepsInfos, TakesInfo, Infos}
 use Rattle.std.proofs.lemmas.Map.Views.{any-filter_same}
 use Rattle.pgp_group.proofs.FirstLemmas.{first-within, step-moves}
-use Rattle.pgp_group.specs.InboxOf.{with_arrival}
-use Rattle.pgp_group.specs.KeptInfos.{counts}
+use Rattle.pgp_group.specs.kept.InboxOf.{with_arrival}
+use Rattle.pgp_group.specs.kept.KeptInfos.{counts}
 use Rattle.pgp_group.proofs.GrowthLemmas.{history-last}
 use Rattle.pgp_group.proofs.HeardLemmas.{HasDistinctMembers-last_of, last_of-contains, last_of-snoc}
 use Rattle.pgp_group.proofs.InboxLemmas.{Grows, Grows-none, Grows-one, IsInboxOf-grown, seen-all, seen-grown, seen-sent}

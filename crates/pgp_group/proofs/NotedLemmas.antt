@@ -4,7 +4,7 @@ use Rattle.pgp_group.specs.declared.device_facts.EachUp.{EachUp}
 use Rattle.pgp_prior.specs.Changes.{is_same_or_gone}
 use Rattle.pgp_sets.specs.Status.{status_by}
 use Rattle.pgp_sets.specs.declared.status.Status.TheVariants.{Gone, Lost, Down}
-use Rattle.pgp_prior.specs.JudgedInterval.{past_of}
+use Rattle.pgp_prior.specs.kept.JudgedInterval.{past_of}
 
 -- both tell the same of each acting member of these intervals
 abbrev pub AgreeOnEach : Bool → (ℕ → ℕ → Status) → (ℕ → ℕ → Status) → List Past → Type 0

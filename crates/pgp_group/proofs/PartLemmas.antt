@@ -2,7 +2,7 @@
 use Rattle.pgp_group.proofs.Common.{◌≡◌, List, [], ◌++◌, Option, Some, None, Bool, true, false, not, map, refl, ap₂, sym, ◌∙◌, list_any, option_map, is_by_place, is_before, Membership, Info, best_info, Heard, Preference, ascending, KeptLog, members_of, Prior, AreHeard, GroupLog, heard, has_member, prior, leader, best, has_whole_log, present_members, peers, peer_missing, peer_states, is_waiting, CountedLog, arith, nat_tests, ℕ, suc, ◌<◌, ◌∷◌, find, unwrap_or, cases_lt, true≢false, Verdict, NoPrimary, Down, Waiting, Incomplete, Short, NeedLog, NeedUpThru, Serve, verdict_holds, verdict, verdict_place, IsFirstCause}
 use Rattle.std.specs.Option.{option_map_or}
 use Rattle.pgp_info.specs.Prefers.{prefers_with as prefers_by}
-use Rattle.pgp_group.specs.Parts.{IsBestCopy}
+use Rattle.pgp_group.specs.kept.Parts.{IsBestCopy}
 use Rattle.pgp_group.specs.Peering.{whole_best}
 use Rattle.pgp_group.specs.Prefers.{prefers}
 use Rattle.pgp_group.specs.declared.group.best_copy.BestCopy.{BestCopy}

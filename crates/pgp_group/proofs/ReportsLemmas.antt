@@ -1,7 +1,7 @@
 -- What is kept of the reports of a group and of the logs of its members, as its log grows and as they are looked at.
 use Rattle.pgp_group.proofs.Common.{◌≡◌, ℕ, ◌≤◌, List, [], ◌∷◌, ◌++◌, Option, None, Bool, true, false, ◌&&◌, cond, nat_le, length, take, refl, ap, sym, ◌∙◌, inl, inr, arith, append-nil, All, filter, find, flat_map, cases_Bool, and_parts, nat_tests, All-contains, All-filter, All-weaker, filter_passes, is_same_member, LogEntry, Member, Report, filter-agree, epoch, by_number, GroupLog, incs, reports, is_counted, is_of, member_log, member_entries, counts_by, reported_in, AreLogsOf, KeepsReports, AreCounted, IsReportedBy, CountedLog, Reports, zero, suc, ◌+◌, ◌<◌, Some, if◌then◌else◌, get_or, position, position_from, position_or_len, slice_get, slice_set, option_map_or, option_or, nat_cmp, filter-append, find_at, find-set, find_past, find-append, position-Some, fold-append, slice_get-get_or, Info, IsLogOf, number_of, flat_map-push}
-use Rattle.pgp_group.specs.InboxOf.{Arrivals, with_arrival}
-use Rattle.pgp_group.specs.KeptReports.{counts_log}
+use Rattle.pgp_group.specs.kept.InboxOf.{Arrivals, with_arrival}
+use Rattle.pgp_group.specs.kept.KeptReports.{counts_log}
 use Rattle.pgp_group.specs.declared.logs.Logs.{Logs}
 use Rattle.pgp_group.proofs.InboxLemmas.{Grows, Grows-none, Grows-one, IsInboxOf-grown, seen-all, seen-grown, seen-sent}
 use Rattle.pgp_group.proofs.LaterLemmas.{Outlasts, outlasts-same}

@@ -14,10 +14,10 @@ use Rattle.pgp_map.specs.declared.map.OsdMap.{OsdMap}
 use Rattle.pgp_group.specs.Entries.{incs_of, info_of, infos_of, reports_of}
 use Rattle.pgp_group.specs.GroupHistory.{EpochsAscend, group_history}
 use Rattle.pgp_group.specs.GroupLog.{GroupLog, cleans, group_with}
-use Rattle.pgp_group.specs.KeptInfos.{KeepsInfos}
-use Rattle.pgp_group.specs.KeptNames.{KeepsNames}
-use Rattle.pgp_group.specs.KeptPrior.{KeepsPrior}
-use Rattle.pgp_group.specs.KeptReports.{KeepsReports}
+use Rattle.pgp_group.specs.kept.KeptInfos.{KeepsInfos}
+use Rattle.pgp_group.specs.kept.KeptNames.{KeepsNames}
+use Rattle.pgp_group.specs.kept.KeptPrior.{KeepsPrior}
+use Rattle.pgp_group.specs.kept.KeptReports.{KeepsReports}
 use Rattle.pgp_group.specs.declared.group.Group.{Group}
 
 -- the group keeps the intervals of its history in the log; all that its members reported, in the order in which it came;

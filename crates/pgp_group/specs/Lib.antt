@@ -9,16 +9,10 @@ pub mod View
 pub mod Examples
 pub mod Worked
 pub mod Present
-pub mod InboxOf
-pub mod KeptInfos
-pub mod KeptReports
-pub mod DeviceFacts
-pub mod KeptPrior
 pub mod GroupOf
 pub mod Reaching
-pub mod Parts
 pub mod Later
 pub mod Touched
-pub mod KeptNames
+pub mod kept
 pub mod Interleaving
 pub mod Reckoning

@@ -9,7 +9,7 @@ ghost use Rattle.pgp_prior.specs.IndexOf.{Basis, IsIndexOf};
 ghost use Rattle.pgp_prior.specs.Members.{members_of};
 ghost use Rattle.pgp_sets.specs.Status.{held_status};
 ghost use Rattle.pgp_sets.specs.declared.status.Status.{Status};
-ghost use Rattle.pgp_group.specs.DeviceFacts.{noted_of, renoted_all, has_noted, allows_turn, HasEachMember, GivesEach, AreOfMap};
+ghost use Rattle.pgp_group.specs.kept.DeviceFacts.{noted_of, renoted_all, has_noted, allows_turn, HasEachMember, GivesEach, AreOfMap};
 
 use pgp_code::AnyCode;
 use pgp_ids::{Epoch, OsdId, Past};
@@ -132,7 +132,7 @@ fn renew(index: &mut PriorIndex<AnyCode>, before: &DeviceFacts, after: &DeviceFa
 struct EachUp;
 
 impl StatusOf for EachUp {
-    ghost use Rattle.pgp_group.specs.DeviceFacts.{status_up};
+    ghost use Rattle.pgp_group.specs.kept.DeviceFacts.{status_up};
 
     ghost status_of = { status_up };
 

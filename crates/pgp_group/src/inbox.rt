@@ -1,7 +1,7 @@
 //! All that came of one kind, and how much of it was looked at.
 
 ghost use Rattle.std.specs.Prelude.{◌≡◌, ◌≤◌, [], false, length, drop, OnOk, OnErr};
-ghost use Rattle.pgp_group.specs.InboxOf.{with_arrival};
+ghost use Rattle.pgp_group.specs.kept.InboxOf.{with_arrival};
 
 use pgp_ids::Epoch;
 use std::alloc::{AllocError, Global};
@@ -22,7 +22,7 @@ pub(crate) struct Inbox<T> {
 }
 
 impl<T> Model for Inbox<T> {
-    ghost use Rattle.pgp_group.specs.InboxOf.{Arrivals};
+    ghost use Rattle.pgp_group.specs.kept.InboxOf.{Arrivals};
 
     ghost Value = { Arrivals T };
 

@@ -4,7 +4,7 @@ ghost use Rattle.std.specs.Prelude.{◌≡◌, [], true, false, IfOk, OnOk, OnEr
 ghost use Rattle.pgp_map.specs.Map.{epoch as epoch_of};
 ghost use Rattle.pgp_group.specs.GroupLog.{GroupLog, incs, infos};
 ghost use Rattle.pgp_group.specs.Heard.{heard};
-ghost use Rattle.pgp_group.specs.KeptInfos.{KeepsInfos, TakesInfo};
+ghost use Rattle.pgp_group.specs.kept.KeptInfos.{KeepsInfos, TakesInfo};
 ghost use Rattle.pgp_group.specs.Present.{IsPresent};
 
 use super::heard::{forget_uncounted, hear, last_infos};

@@ -6,7 +6,7 @@ ghost use Rattle.pgp_interval.specs.IntervalsOf.{IsIntervalsOf};
 ghost use Rattle.pgp_map.specs.MapOf.{IsMapOf};
 ghost use Rattle.pgp_group.specs.GroupLog.{GroupLog, cleans, incs};
 ghost use Rattle.pgp_group.specs.Heard.{les as les_of};
-ghost use Rattle.pgp_group.specs.KeptPrior.{KeepsPrior, IsAbreast, IsReckoned};
+ghost use Rattle.pgp_group.specs.kept.KeptPrior.{KeepsPrior, IsAbreast, IsReckoned};
 ghost use Rattle.pgp_group.specs.Peering.{past as past_of};
 
 use super::device_facts::{DeviceFacts, note_members, renew_all};

@@ -10,7 +10,7 @@ ghost use Rattle.pgp_ids.specs.declared.report.Report.{Report as AnyReport};
 ghost use Rattle.pgp_missing.specs.Kept.{IsLogOf};
 ghost use Rattle.pgp_missing.specs.Log.{by_number};
 ghost use Rattle.pgp_group.specs.GroupLog.{GroupLog};
-ghost use Rattle.pgp_group.specs.KeptReports.{is_of, member_log, member_entries, counts_log, counts_by, AreLogsOf};
+ghost use Rattle.pgp_group.specs.kept.KeptReports.{is_of, member_log, member_entries, counts_log, counts_by, AreLogsOf};
 ghost use Rattle.pgp_group.specs.Present.{IsPresent};
 ghost use Rattle.pgp_group.specs.declared.logs.CountedLog.{CountedLog as LogOfMember};
 

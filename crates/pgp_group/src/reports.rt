@@ -3,7 +3,7 @@
 ghost use Rattle.std.specs.Prelude.{◌≡◌, [], IfOk, OnOk, OnErr};
 ghost use Rattle.pgp_map.specs.Map.{epoch as epoch_of};
 ghost use Rattle.pgp_group.specs.GroupLog.{GroupLog, incs, reports};
-ghost use Rattle.pgp_group.specs.KeptReports.{KeepsReports, IsReportedBy, AreCounted, AreLogsOf};
+ghost use Rattle.pgp_group.specs.kept.KeptReports.{KeepsReports, IsReportedBy, AreCounted, AreLogsOf};
 ghost use Rattle.pgp_group.specs.Present.{IsPresent};
 
 use super::inbox::Inbox;

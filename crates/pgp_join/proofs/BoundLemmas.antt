@@ -8,6 +8,7 @@ use Rattle.pgp_ids.specs.declared.pool.PoolSizes.{PoolSizes}
 use Rattle.pgp_ids.specs.declared.view.View.{View}
 use Rattle.pgp_lists.proofs.Bools.{same_tests}
 use Rattle.pgp_lists.proofs.Ranges.{range-contains}
+use Rattle.pgp_group.proofs.GrowthLemmas.{groups-sized}
 use Rattle.pgp_group.proofs.ViewLemmas.{scratch_there}
 use Rattle.pgp_join.specs.Bound.{begun_in, epochs_begun, first_epochs, groups_made}
 
@@ -22,10 +23,6 @@ members-more f xs i x old new more has put q =
     ∙ ap (λ l. is_member nat_eq l q) (sym (flat_map-push f (take i xs) x) ∙ ap (flat_map f) (sym more))
 
 -- ---- the groups of the pools that were made
-
-groups-sized : (sizes : Option PoolSizes) (made : PoolSpec) → (with_sizes sizes made).pg_num ≡ made.pg_num
-groups-sized None made = refl
-groups-sized (Some sizes) made = refl
 
 -- each group of the map is one of a pool that was made
 group-made : (incs : List Incremental) (pg : PgId) → has_group incs pg ≡ true → Contains (flat_map groups_made (flat_map (λ inc. inc.pools) incs)) pg

@@ -5,5 +5,6 @@ pub mod FollowLemmas
 pub mod AnswerLemmas
 pub mod PassedLemmas
 mod BoundLemmas
+mod Same
 mod SameLemmas
 mod CheckLemmas

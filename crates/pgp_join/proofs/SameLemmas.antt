@@ -21,7 +21,7 @@ use Rattle.pgp_interval.specs.SameMembers.{is_same}
 use Rattle.pgp_interval.proofs.Same.{eq-is_same, is_same-eq}
 use Rattle.pgp_map.specs.Pools.{is_same_group}
 use Rattle.pgp_map.proofs.AlikeLemmas.{both_Decide, groups_Decides}
-use Rattle.pgp_join.specs.Same.{is_same_change, is_same_entry, is_same_info, is_same_past, is_same_report}
+use Rattle.pgp_join.proofs.Same.{is_same_change, is_same_entry, is_same_info, is_same_past, is_same_report}
 
 pub member_Decides : (a b : Member) → Decides (is_same_member a b) (a ≡ b)
 member_Decides a b =

@@ -1,4 +1,3 @@
 pub mod Alike
 pub mod Bound
-pub mod Same
 pub mod Text

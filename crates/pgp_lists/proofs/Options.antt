@@ -1,5 +1,5 @@
 -- What is there, and what isn't.
-use Rattle.std.proofs.Common.{◌≡◌, Bool, true, false, Option, Some, None, IfSome, is_none, is_some, option_map, option_and_then, cond, refl}
+use Rattle.std.proofs.Common.{◌≡◌, Bool, true, false, Option, Some, None, IfSome, is_none, is_some, option_map, cond, refl}
 
 -- something is there
 pub some_is : {X : Type 0} (found : Option X) → is_some found ≡ true → (x : X) × (found ≡ Some x)
@@ -21,10 +21,6 @@ map_some f (Some x) y is = (x, refl, cc)
 pub map_none : {X Y : Type 0} (f : X → Y) (found : Option X) → option_map f found ≡ None → found ≡ None
 map_none f None is = refl
 map_none f (Some x) is = cc
-
-pub and_then_some : {X Y : Type 0} (found : Option X) (f : X → Option Y) (y : Y) → option_and_then f found ≡ Some y → (x : X) × (found ≡ Some x) × (f x ≡ Some y)
-and_then_some None f y is = cc
-and_then_some (Some x) f y is = (x, refl, is)
 
 -- what holds of the value, if there is one
 pub some-weaker : {X : Type 0} (found : Option X) (P Q : X → Type 0) → ((x : X) → P x → Q x) → IfSome found P → IfSome found Q

@@ -26,7 +26,7 @@ use Rattle.pgp_ids.specs.declared.part.Part.{Part}
 use Rattle.pgp_ids.specs.declared.pool.PoolKind.{PoolKind}
 use Rattle.pgp_ids.specs.declared.pool.PoolKind.TheVariants.{Replicated, Erasure, Grouped}
 use Rattle.pgp_ids.specs.declared.pool.PoolSpec.{PoolSpec}
-use Rattle.pgp_map.specs.Same.{is_same_alg, is_same_bucket, is_same_kind, is_same_part, is_same_pool}
+use Rattle.pgp_map.proofs.Same.{is_same_alg, is_same_bucket, is_same_kind, is_same_part, is_same_pool}
 use Rattle.pgp_ids.specs.declared.pg_id.PgId.{PgId}
 use Rattle.pgp_ids.specs.declared.incremental.Incremental.{Incremental}
 use Rattle.pgp_lists.proofs.Members.{contains-map}

@@ -14,7 +14,7 @@ use Rattle.pgp_lists.proofs.Lists.{any-mapped}
 use Rattle.pgp_map.specs.declared.fault.MapFault.{MapFault}
 use Rattle.pgp_map.specs.declared.fault.MapFault.TheVariants.{EpochGap, Memory, Twice}
 use Rattle.pgp_map.specs.Devices.{boots, takes_down, destroys, is_up}
-use Rattle.pgp_map.specs.Findings.{first_of, AreFindings}
+use Rattle.pgp_map.specs.kept.Findings.{first_of, AreFindings}
 use Rattle.pgp_map.specs.MapFault.{map_fault, given_fault, has_epoch_gap, names_twice, devices_that_must_exist, then_with}
 use Rattle.pgp_map.specs.Memory.{is_filled}
 use Rattle.pgp_map.proofs.DeviceLemmas.{is_up-push}

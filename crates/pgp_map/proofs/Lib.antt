@@ -6,4 +6,5 @@ pub mod NumberSetLemmas
 pub mod RepeatLemmas
 pub mod CheckLemmas
 pub mod CheckedLemmas
+mod Same
 pub mod AlikeLemmas

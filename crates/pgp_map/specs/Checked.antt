@@ -1,16 +1,12 @@
 -- Lists of map incrementals, oldest first, each of which was checked when it came.
-use Rattle.std.specs.Prelude.{ℕ, List, Bool, is_none}
+use Rattle.std.specs.Prelude.{List, Bool, is_none}
 use Rattle.pgp_ids.specs.declared.incremental.Incremental.{Incremental}
-use Rattle.pgp_lists.specs.Taken.{is_taken_at, are_taken}
+use Rattle.pgp_lists.specs.Taken.{are_taken}
 use Rattle.pgp_map.specs.MapFault.{map_fault}
 
 -- the incremental has no fault after these
 abbrev pub is_faultless : List Incremental → Incremental → Bool
 is_faultless incs inc = is_none (map_fault incs inc)
-
--- the incremental at this place has no fault after those before it
-abbrev pub is_checked_at : List Incremental → ℕ → Bool
-is_checked_at incs n = is_taken_at is_faultless incs n
 
 -- each incremental has no fault after those before it
 abbrev pub are_checked : List Incremental → Bool

@@ -1,6 +1,5 @@
 pub mod Last
 pub mod Alike
-pub mod Same
 pub mod Devices
 pub mod Pools
 pub mod Map
@@ -11,8 +10,7 @@ pub mod MapOf
 pub mod Checked
 pub mod Held
 pub mod HeldLaws
-pub mod Room
 pub mod Examples
-pub mod Findings
+pub mod kept
 pub mod Memory
 pub mod NumberSet

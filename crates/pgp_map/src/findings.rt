@@ -1,7 +1,7 @@
 //! What is wrong with an incremental.
 
 ghost use Rattle.std.specs.Prelude.{◌≡◌};
-ghost use Rattle.pgp_map.specs.Findings.{first_of};
+ghost use Rattle.pgp_map.specs.kept.Findings.{first_of};
 
 use super::fault::MapFault;
 

@@ -6,7 +6,7 @@ ghost use Rattle.std.specs.List.{Contains};
 ghost use Rattle.pgp_ids.specs.declared.pg_id.PgId.{PgId as Group};
 ghost use Rattle.pgp_crush.specs.Bucket.{bucket_of};
 ghost use Rattle.pgp_map.specs.Alike.{SayTheSame};
-ghost use Rattle.pgp_map.specs.Room.{HasRoom};
+ghost use Rattle.pgp_map.specs.kept.Room.{HasRoom};
 ghost use Rattle.pgp_map.specs.Memory.{is_filled, MayLackMemory, may_grow};
 ghost use Rattle.pgp_map.specs.MapOf.{IsMapOf, Says};
 ghost use Rattle.pgp_map.specs.Held.{held_exists, held_groups, held_up, held_lost_at, held_pool};
@@ -14,7 +14,7 @@ ghost use Rattle.pgp_map.specs.Devices.{exists, is_up, up_from, down_at, up_thru
 ghost use Rattle.pgp_map.specs.Pools.{has_group, pool, temp};
 ghost use Rattle.pgp_map.specs.Map.{epoch, tree};
 ghost use Rattle.pgp_map.specs.MapFault.{map_fault, given_fault, then_with, has_epoch_gap, has_unknown_device, has_lost_up, has_still_up, has_ahead, has_bad_pool, has_pool_known, has_bad_temp};
-ghost use Rattle.pgp_map.specs.Findings.{AreFindings};
+ghost use Rattle.pgp_map.specs.kept.Findings.{AreFindings};
 
 use super::alike::{
     are_devices_alike, are_pools_alike, are_temps_alike, are_trees_alike, are_weights_alike,
@@ -147,8 +147,11 @@ impl OsdMap {
         let boots = SearchedDevices::of(inc.up.as_slice());
         let downs = SearchedDevices::of(inc.down.as_slice());
         let destroyed = SearchedDevices::of(inc.gone.as_slice());
-        let told = inc.lost.as_slice();
-        standing::has_lost_up(&self.devices, &boots, &downs, &destroyed, told)
+        inc.lost.as_slice().iter().any(|entry| {
+            let is_turned_off = downs.contains(entry.osd) || destroyed.contains(entry.osd);
+            let was_up = devices::device_at(&self.devices, entry.osd).is_up;
+            boots.contains(entry.osd) || !is_turned_off && was_up
+        })
     }
 
     /// A pool is made of numbers out of range or given sizes to which it can't change, or there are too many groups.

@@ -1,7 +1,8 @@
 //! The tests of an incremental's devices, by the table of devices.
 
-ghost use Rattle.std.specs.Prelude.{◌≡◌, not, ◌||◌, ◌&&◌, nat_eq, nat_lt};
+ghost use Rattle.std.specs.Prelude.{◌≡◌, not, ◌&&◌, nat_lt};
 ghost use Rattle.std.specs.List.{list_any};
+ghost use Rattle.pgp_map.specs.kept.Findings.{is_unknown};
 ghost use Rattle.pgp_map.specs.MapFault.{devices_that_must_exist};
 ghost use Rattle.pgp_tables.specs.DeviceTable.{device_at};
 
@@ -13,14 +14,14 @@ use std::collections::HashMap;
 
 /// The device neither exists nor is one of those that boot.
 fn is_unknown(table: &HashMap<OsdId, Device>, boots: &SearchedDevices, osd: OsdId) -> bool
-    ensures { result ≡ not ((device_at table.now osd).exists || list_any (nat_eq osd) boots.now.osds.now) }
+    ensures { result ≡ is_unknown table.now boots.now.osds.now osd }
 {
     !(device_at(table, osd).exists || boots.contains(osd))
 }
 
 /// One of the devices is unknown.
 fn any_unknown(table: &HashMap<OsdId, Device>, boots: &SearchedDevices, osds: &[OsdId]) -> bool
-    ensures { result ≡ list_any (λ osd. not ((device_at table.now osd).exists || list_any (nat_eq osd) boots.now.osds.now)) osds.now }
+    ensures { result ≡ list_any (is_unknown table.now boots.now.osds.now) osds.now }
 {
     osds.iter().any(|osd| is_unknown(table, boots, *osd))
 }
@@ -31,7 +32,7 @@ fn weighs_unknown(
     boots: &SearchedDevices,
     weights: &[DeviceWeight],
 ) -> bool
-    ensures { result ≡ list_any (λ entry. not ((device_at table.now entry.osd).exists || list_any (nat_eq entry.osd) boots.now.osds.now)) weights.now }
+    ensures { result ≡ list_any (λ entry. is_unknown table.now boots.now.osds.now entry.osd) weights.now }
 {
     weights
         .iter()
@@ -44,7 +45,7 @@ fn tells_unknown(
     boots: &SearchedDevices,
     told: &[DeviceEpoch],
 ) -> bool
-    ensures { result ≡ list_any (λ entry. not ((device_at table.now entry.osd).exists || list_any (nat_eq entry.osd) boots.now.osds.now)) told.now }
+    ensures { result ≡ list_any (λ entry. is_unknown table.now boots.now.osds.now entry.osd) told.now }
 {
     told.iter().any(|entry| is_unknown(table, boots, entry.osd))
 }
@@ -56,7 +57,7 @@ pub(crate) fn has_unknown(
     boots: &SearchedDevices,
     inc: &Incremental,
 ) -> bool
-    ensures { result ≡ list_any (λ osd. not ((device_at table.now osd).exists || list_any (nat_eq osd) boots.now.osds.now)) (devices_that_must_exist inc.now) }
+    ensures { result ≡ list_any (is_unknown table.now boots.now.osds.now) (devices_that_must_exist inc.now) }
 {
     let falls = any_unknown(table, boots, inc.down.as_slice());
     let goes = any_unknown(table, boots, inc.gone.as_slice());
@@ -80,23 +81,6 @@ pub(crate) fn has_down(table: &HashMap<OsdId, Device>, osds: &[OsdId]) -> bool
     osds.iter().any(|osd| {
         let device = device_at(table, *osd);
         device.exists && !device.is_up
-    })
-}
-
-/// A device is given up for lost that is up after some boot and others are taken down or destroyed.
-pub(crate) fn has_lost_up(
-    table: &HashMap<OsdId, Device>,
-    boots: &SearchedDevices,
-    downs: &SearchedDevices,
-    destroyed: &SearchedDevices,
-    told: &[DeviceEpoch],
-) -> bool
-    ensures { result ≡ list_any (λ entry. list_any (nat_eq entry.osd) boots.now.osds.now || not (list_any (nat_eq entry.osd) downs.now.osds.now || list_any (nat_eq entry.osd) destroyed.now.osds.now) && (device_at table.now entry.osd).is_up) told.now }
-{
-    told.iter().any(|entry| {
-        boots.contains(entry.osd)
-            || !(downs.contains(entry.osd) || destroyed.contains(entry.osd))
-                && device_at(table, entry.osd).is_up
     })
 }
 

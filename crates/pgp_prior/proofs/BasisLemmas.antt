@@ -16,9 +16,9 @@ use Rattle.pgp_prior.specs.declared.judged_interval.JudgedInterval.{JudgedInterv
 use Rattle.pgp_prior.specs.declared.prior_set.Prior.{Prior}
 use Rattle.pgp_prior.specs.Members.{members_of}
 use Rattle.pgp_prior.specs.Changes.{allows, IsChangeIn, IsChange}
-use Rattle.pgp_prior.specs.JudgedInterval.{IsKept, past_of, later_les, EachKept, IsUnderWay}
-use Rattle.pgp_prior.specs.KeptLists.{kept_matters, kept_blocks, up_of, down_of}
-use Rattle.pgp_prior.specs.Places.{places_of}
+use Rattle.pgp_prior.specs.kept.JudgedInterval.{IsKept, past_of, later_les, EachKept, IsUnderWay}
+use Rattle.pgp_prior.specs.kept.KeptLists.{kept_matters, kept_blocks, up_of, down_of}
+use Rattle.pgp_prior.specs.kept.Places.{places_of}
 use Rattle.pgp_ids.specs.Past.{raised_at}
 use Rattle.pgp_prior.specs.IndexOf.{Basis, IsIndexOf, prior_by, HasEachPlace}
 use Rattle.pgp_prior.proofs.BetterLemmas.{blocks-same}

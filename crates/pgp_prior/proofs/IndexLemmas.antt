@@ -10,8 +10,8 @@ use Rattle.pgp_sets.specs.declared.status.Status.{Status}
 use Rattle.pgp_prior.specs.declared.judged_interval.JudgedInterval.{JudgedInterval}
 use Rattle.pgp_prior.specs.Members.{members_of}
 use Rattle.pgp_prior.specs.Blocks.{is_up_status, is_down, matters, acting_where, down_osds, blocks}
-use Rattle.pgp_prior.specs.JudgedInterval.{IsKept, past_of, later_les, EachKept}
-use Rattle.pgp_prior.specs.KeptLists.{kept_status, kept_matters, kept_blocks, up_of, down_of}
+use Rattle.pgp_prior.specs.kept.JudgedInterval.{IsKept, past_of, later_les, EachKept}
+use Rattle.pgp_prior.specs.kept.KeptLists.{kept_status, kept_matters, kept_blocks, up_of, down_of}
 use Rattle.pgp_prior.specs.IndexOf.{HasEachPlace}
 use Rattle.pgp_prior.proofs.KnownStatusLemmas.{status_or_gone-is}
 

@@ -14,9 +14,9 @@ use Rattle.pgp_prior.specs.declared.statuses.Statuses.{Statuses}
 use Rattle.pgp_prior.specs.Members.{members_of}
 use Rattle.pgp_prior.specs.Blocks.{blocks}
 use Rattle.pgp_prior.specs.Changes.{allows, rechecks, IsChangeIn}
-use Rattle.pgp_prior.specs.KnownStatuses.{status_in, status_or_gone, renamed}
-use Rattle.pgp_prior.specs.JudgedInterval.{IsKept}
-use Rattle.pgp_prior.specs.KeptLists.{kept_status}
+use Rattle.pgp_prior.specs.kept.KnownStatuses.{status_in, status_or_gone, renamed}
+use Rattle.pgp_prior.specs.kept.JudgedInterval.{IsKept}
+use Rattle.pgp_prior.specs.kept.KeptLists.{kept_status}
 use Rattle.pgp_prior.proofs.BetterLemmas.{no_worse-relieves, no_better-relieves, blocks-before, blocks-same}
 use Rattle.pgp_prior.proofs.KnownStatusLemmas.{status-renamed, status-others, status_or_gone-is}
 

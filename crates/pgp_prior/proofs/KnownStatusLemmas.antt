@@ -7,7 +7,7 @@ use Rattle.pgp_lists.proofs.Members.{Contains-nil, Contains-cases}
 use Rattle.pgp_sets.specs.declared.status.Status.{Status}
 use Rattle.pgp_sets.specs.declared.status.Status.TheVariants.{Gone}
 use Rattle.pgp_prior.specs.declared.statuses.KnownStatus.{KnownStatus}
-use Rattle.pgp_prior.specs.KnownStatuses.{status_in, status_or_gone, known_of, renamed}
+use Rattle.pgp_prior.specs.kept.KnownStatuses.{status_in, status_or_gone, known_of, renamed}
 
 pub status-known : (status : ℕ → ℕ → Status) (first : ℕ) (members : List Member) (member : Member) → Contains members member → status_in (map (known_of status first) members) member.osd ≡ Some (status member.osd first)
 status-known status first [] member in' = absurd (Contains-nil member in')

@@ -5,7 +5,7 @@ use Rattle.pgp_ids.specs.declared.past.Past.{Past}
 use Rattle.pgp_sets.specs.declared.status.Status.{Status}
 use Rattle.pgp_prior.specs.declared.judged_interval.JudgedInterval.{JudgedInterval}
 use Rattle.pgp_prior.specs.Blocks.{blocks}
-use Rattle.pgp_prior.specs.JudgedInterval.{past_of}
+use Rattle.pgp_prior.specs.kept.JudgedInterval.{past_of}
 use Rattle.pgp_prior.specs.IndexOf.{HasEachPlace}
 use Rattle.pgp_prior.specs.Prior.{is_group_down}
 use Rattle.pgp_ids.specs.Past.{with_rw, raised_at}

@@ -9,7 +9,7 @@ use Rattle.pgp_lists.proofs.Lists.{get-set_other, get-set_same}
 use Rattle.pgp_lists.proofs.Members.{Contains-nil, Contains-cases}
 use Rattle.pgp_sets.specs.declared.status.Status.{Status}
 use Rattle.pgp_prior.specs.declared.judged_interval.JudgedInterval.{JudgedInterval}
-use Rattle.pgp_prior.specs.JudgedInterval.{IsKept, past_of, EachKept, IsUnderWay}
+use Rattle.pgp_prior.specs.kept.JudgedInterval.{IsKept, past_of, EachKept, IsUnderWay}
 
 pub at-contains : {X : Type 0} (xs : List X) (k : ℕ) (x : X) → slice_get xs k ≡ Some x → Contains xs x
 at-contains xs k x is = (k, slice_get_within xs k x is, get_or_from_slice_get xs k x x is)

@@ -8,8 +8,8 @@ use Rattle.pgp_prior.specs.declared.prior_set.Prior.{Prior}
 use Rattle.pgp_prior.specs.declared.index.PriorIndex.{PriorIndex}
 use Rattle.pgp_prior.specs.Members.{members_of}
 use Rattle.pgp_prior.specs.Prior.{prior_set, is_group_down}
-use Rattle.pgp_prior.specs.JudgedInterval.{past_of, EachKept}
-use Rattle.pgp_prior.specs.Places.{places_of}
+use Rattle.pgp_prior.specs.kept.JudgedInterval.{past_of, EachKept}
+use Rattle.pgp_prior.specs.kept.Places.{places_of}
 
 -- what a prior set is reckoned from: the code of the pool, the past intervals of the group, its current membership, the
 -- epoch in which it last began to serve, and what has become of a device, given the first epoch of an interval

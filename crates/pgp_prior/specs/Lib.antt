@@ -4,9 +4,6 @@ pub mod Blocks
 pub mod Prior
 pub mod Better
 pub mod Changes
-pub mod KnownStatuses
-pub mod JudgedInterval
-pub mod KeptLists
-pub mod Places
+pub mod kept
 pub mod IndexOf
 pub mod Examples

@@ -1,7 +1,7 @@
 ghost use Rattle.std.specs.Prelude.{◌≡◌, ℕ, IfOk};
 ghost use Rattle.pgp_sets.specs.declared.status.Status.{Status};
 ghost use Rattle.pgp_prior.specs.Changes.{allows, rechecks, IsChangeIn};
-ghost use Rattle.pgp_prior.specs.JudgedInterval.{IsKept, AgreeOnMembers, later_les};
+ghost use Rattle.pgp_prior.specs.kept.JudgedInterval.{IsKept, AgreeOnMembers, later_les};
 ghost use Rattle.pgp_ids.specs.Past.{with_rw};
 
 use super::blocking::{blocks, matters};

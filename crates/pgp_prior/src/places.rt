@@ -3,7 +3,7 @@
 ghost use Rattle.std.specs.Prelude.{ℕ, Contains, OnOk};
 ghost use Rattle.pgp_ids.specs.declared.member.Member.{Member};
 ghost use Rattle.pgp_prior.specs.Members.{members_of};
-ghost use Rattle.pgp_prior.specs.Places.{places_of};
+ghost use Rattle.pgp_prior.specs.kept.Places.{places_of};
 
 use super::members::members_of;
 use pgp_ids::{OsdId, Past, Seq};

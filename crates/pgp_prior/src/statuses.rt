@@ -1,5 +1,5 @@
 ghost use Rattle.std.specs.Prelude.{◌≡◌, IfOk, map};
-ghost use Rattle.pgp_prior.specs.KnownStatuses.{renamed, known_of};
+ghost use Rattle.pgp_prior.specs.kept.KnownStatuses.{renamed, known_of};
 ghost use Rattle.pgp_prior.specs.Members.{members_of};
 
 use super::members::members_of;
@@ -56,7 +56,7 @@ impl Statuses {
 
 /// The statuses of the devices of one interval, whichever first epoch is named. A device that doesn't stand in it is gone.
 impl StatusOf for Statuses {
-    ghost use Rattle.pgp_prior.specs.KnownStatuses.{status_or_gone};
+    ghost use Rattle.pgp_prior.specs.kept.KnownStatuses.{status_or_gone};
 
     ghost status_of = { λ statuses osd _. status_or_gone statuses.known.items osd };
 

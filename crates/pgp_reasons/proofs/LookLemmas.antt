@@ -1,7 +1,7 @@
 -- How many sets a walk judges at most, and why it stops before its end.
 use Rattle.std.proofs.Common.{◌≡◌, ℕ, zero, suc, ◌+◌, ◌-◌, ◌<◌, ◌≤◌, List, [], ◌∷◌, ◌++◌, length, add-one, zero-add, suc-add, refl, ap, sym, ◌∙◌, subst, inl, inr, arith}
 use Rattle.std.proofs.lemmas.List.{length-append}
-use Rattle.pgp_reasons.specs.Looks.{looks_of, looks_below, most_looks, HasStopped}
+use Rattle.pgp_reasons.specs.kept.Looks.{looks_of, looks_below, most_looks, HasStopped}
 
 -- ---- how many sets are judged
 

@@ -5,7 +5,7 @@ use Rattle.std.proofs.lemmas.Bool.{cases_Bool, eq-eqb, true≢false}
 use Rattle.std.proofs.lemmas.Bool.Decides.{nat_tests}
 use Rattle.std.proofs.lemmas.List.Sums.{count_by-le-length, sum_by-cons}
 use Rattle.pgp_lists.proofs.Members.{Contains-cases, Contains-first, Contains-here, Contains-nil, append-contains, contains-any, contains-append, contains-filter}
-use Rattle.pgp_reasons.specs.Shape.{IsEach, is_as_wanted}
+use Rattle.pgp_reasons.specs.kept.Shape.{IsEach, is_as_wanted}
 use Rattle.pgp_reasons.specs.Smallest.{holds, sets_of, IsPartOf}
 use Rattle.pgp_reasons.proofs.SetLemmas.{held-one, IsMonotone, fewer-short, set-cases, too_few, with-first, without-first}
 

@@ -9,7 +9,7 @@ use Rattle.std.proofs.lemmas.List.Elements.{filter-append}
 use Rattle.pgp_lists.proofs.Lists.{flat_map-push}
 use Rattle.pgp_lists.proofs.Ranges.{range_with_len-suc}
 use Rattle.pgp_lists.proofs.Members.{contains-append, map-contains, contains-any}
-use Rattle.pgp_reasons.specs.Looks.{looks_below, most_looks, HasStopped}
+use Rattle.pgp_reasons.specs.kept.Looks.{looks_below, most_looks, HasStopped}
 use Rattle.pgp_reasons.specs.Smallest.{sets_of, each_but_one, is_smallest, smallest, smallest_with, few_devices, most_sets, AreFirstOf, AreMany, AreSome, IsSpread}
 use Rattle.pgp_reasons.proofs.LookLemmas.{few-looks, stopped-more, stopped-same}
 use Rattle.pgp_reasons.proofs.SetLemmas.{too_few, set-part, first-of, each-append, filter-none, append-part, IsMonotone, fewer-short}

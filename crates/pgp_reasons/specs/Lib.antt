@@ -4,8 +4,7 @@ pub mod Blocking
 pub mod Gaps
 pub mod Reported
 pub mod Smallest
-pub mod Looks
-pub mod Shape
+pub mod kept
 pub mod Short
 pub mod Ways
 pub mod WayLaws

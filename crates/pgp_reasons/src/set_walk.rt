@@ -1,5 +1,5 @@
 ghost use Rattle.std.specs.Prelude.{◌≡◌, ◌<◌, ◌≤◌, ◌+◌, ◌++◌, [], ◌∷◌, false, length, filter, IfOk, IfSome, IfNone, OnOk};
-ghost use Rattle.pgp_reasons.specs.Looks.{looks_of, most_looks, HasStopped};
+ghost use Rattle.pgp_reasons.specs.kept.Looks.{looks_of, most_looks, HasStopped};
 ghost use Rattle.pgp_reasons.specs.Smallest.{is_smallest, most_sets, smallest_with, AreFirstOf};
 
 use super::enough::Enough;

@@ -1,7 +1,7 @@
 //! Whether any so many of some devices are enough.
 
 ghost use Rattle.std.specs.Prelude.{◌≡◌, ◌++◌, true, filter, IfOk, IfSome, OnOk};
-ghost use Rattle.pgp_reasons.specs.Shape.{takes_part, is_as_wanted, IsEach};
+ghost use Rattle.pgp_reasons.specs.kept.Shape.{takes_part, is_as_wanted, IsEach};
 ghost use Rattle.pgp_reasons.specs.Smallest.{IsAnyOf};
 
 use super::enough::{Enough, leave_out};

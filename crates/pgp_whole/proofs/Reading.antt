@@ -6,7 +6,7 @@ use Rattle.pgp_lines.specs.declared.command.format.Format.{Format}
 use Rattle.pgp_core.specs.Added.{EntryLine, IsOutcome, added_by, entries_of_lines, entry_line, entry_lines, with_added}
 use Rattle.pgp_core.specs.declared.outcome.LineOutcome.{LineOutcome}
 use Rattle.pgp_core.specs.declared.outcome.LineOutcome.TheVariants.{Blank, Taken, Asked, Refused}
-use Rattle.pgp_whole.specs.Entries.{IsReadTo, kept_of, texts}
+use Rattle.pgp_whole.specs.kept.Entries.{IsReadTo, kept_of, texts}
 use Rattle.pgp_whole.specs.Remaining.{bare}
 use Rattle.pgp_whole.specs.declared.entries.ScriptEntries.{ScriptEntries}
 

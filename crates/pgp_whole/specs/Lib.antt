@@ -1,5 +1,5 @@
 pub mod Remaining
-pub mod Entries
+pub mod kept
 pub mod Compaction
 pub mod Joining
 pub mod Summary

@@ -34,12 +34,12 @@ abbrev pub group_of : ℕ → ℕ → PgId
 group_of id pg = record { pool = id; pg = pg }
 
 -- how many groups a pool has by the map of these incrementals
-abbrev pub group_count : List Incremental → ℕ → ℕ
-group_count incs id = option_map_or (λ made. made.pg_num) (pool incs id) 0
+abbrev pub pg_num_in : List Incremental → ℕ → ℕ
+pg_num_in incs id = option_map_or (λ made. made.pg_num) (pool incs id) 0
 
 -- its groups
 abbrev pub groups_of_pool : List Incremental → ℕ → List PgId
-groups_of_pool incs id = map (group_of id) (range_with_len 0 (group_count incs id))
+groups_of_pool incs id = map (group_of id) (range_with_len 0 (pg_num_in incs id))
 
 -- the numbers of all pools that there may be
 unfoldable pub pool_numbers : List ℕ

@@ -2,7 +2,7 @@
 
 ghost use Rattle.std.specs.Prelude.{◌≡◌, ℕ, List, [], ◌∷◌, ◌++◌, IfOk, OnOk};
 ghost use Rattle.pgp_core.specs.Lines.{lines_of};
-ghost use Rattle.pgp_whole.specs.Entries.{IsReadTo, kept_of, texts};
+ghost use Rattle.pgp_whole.specs.kept.Entries.{IsReadTo, kept_of, texts};
 
 use pgp_core::{LineOutcome, Log, first_line};
 use pgp_lines::{Format, LineReader};

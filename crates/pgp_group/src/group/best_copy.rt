@@ -11,7 +11,7 @@ ghost use Rattle.pgp_missing.specs.Log.{is_whole};
 ghost use Rattle.pgp_missing.specs.Missing.{peer_state};
 ghost use Rattle.pgp_group.specs.GroupLog.{GroupLog};
 ghost use Rattle.pgp_group.specs.GroupOf.{Keeps};
-ghost use Rattle.pgp_group.specs.Parts.{AreHeard, AreLogsHeard, IsBestCopy};
+ghost use Rattle.pgp_group.specs.kept.Parts.{AreHeard, AreLogsHeard, IsBestCopy};
 ghost use Rattle.pgp_group.specs.Peering.{others_heard};
 
 use super::Group;

@@ -1,5 +1,5 @@
 use Rattle.std.proofs.Common.{rules}
-use Rattle.pgp_join.specs.Same.{is_same_past}
+use Rattle.pgp_join.proofs.Same.{is_same_past}
 use Rattle.pgp_join.proofs.SameLemmas.{past_Decides, lists_Decide}
 use Rattle.pgp_join.proofs.alike.are_same_intervals.Goals as goal
 

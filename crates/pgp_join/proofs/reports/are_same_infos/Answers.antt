@@ -1,5 +1,5 @@
 use Rattle.std.proofs.Common.{rules}
-use Rattle.pgp_join.specs.Same.{is_same_info}
+use Rattle.pgp_join.proofs.Same.{is_same_info}
 use Rattle.pgp_join.proofs.SameLemmas.{info_Decides, lists_Decide}
 use Rattle.pgp_join.proofs.reports.are_same_infos.Goals as goal
 

@@ -1,5 +1,5 @@
 use Rattle.std.proofs.Common.{rules}
-use Rattle.pgp_join.specs.Same.{is_same_report}
+use Rattle.pgp_join.proofs.Same.{is_same_report}
 use Rattle.pgp_join.proofs.SameLemmas.{report_Decides, lists_Decide}
 use Rattle.pgp_join.proofs.reports.are_same_reports.Goals as goal
 

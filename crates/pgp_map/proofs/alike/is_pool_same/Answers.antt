@@ -1,6 +1,6 @@
 use Rattle.std.proofs.Common.{◌≡◌, Decides, rules, subst, sym}
 use Rattle.pgp_map.proofs.AlikeLemmas.{pool_Decides}
-use Rattle.pgp_map.specs.Same.{is_same_pool}
+use Rattle.pgp_map.proofs.Same.{is_same_pool}
 use Rattle.pgp_map.proofs.alike.is_pool_same.Goals as goal
 
 pub returns : goal.returns

@@ -2,7 +2,7 @@ use Rattle.std.proofs.Common.{◌⊎◌, ℕ}
 use Rattle.std.specs.List.{Contains}
 use Rattle.pgp_ids.specs.declared.member.Member.{Member}
 use Rattle.pgp_prior.specs.Members.{members_of}
-use Rattle.pgp_prior.specs.Places.{places_of}
+use Rattle.pgp_prior.specs.kept.Places.{places_of}
 use Rattle.pgp_prior.proofs.places.add_interval.Given as goal
 
 -- each member is left, or its device has the place

@@ -1,6 +1,6 @@
 use Rattle.std.proofs.Common.{◌⊎◌, ℕ, List, true, length, sym, ◌∙◌, subst, inl, inr, arith}
 use Rattle.std.specs.List.{Contains}
-use Rattle.pgp_reasons.specs.Shape.{is_as_wanted, takes_part}
+use Rattle.pgp_reasons.specs.kept.Shape.{is_as_wanted, takes_part}
 use Rattle.pgp_reasons.proofs.ShapeLemmas.{AreSplit, any-exact, parted}
 use Rattle.pgp_reasons.proofs.shape.any_of.Goals as goal
 

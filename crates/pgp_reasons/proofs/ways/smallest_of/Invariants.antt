@@ -1,5 +1,5 @@
 use Rattle.std.proofs.Common.{◌≡◌, ◌+◌, ◌≤◌, [], length}
-use Rattle.pgp_reasons.specs.Looks.{looks_below, most_looks}
+use Rattle.pgp_reasons.specs.kept.Looks.{looks_below, most_looks}
 use Rattle.pgp_reasons.specs.Smallest.{most_sets}
 use Rattle.pgp_reasons.proofs.WalkLemmas.{smallest_below}
 use Rattle.pgp_reasons.proofs.ways.smallest_of.Given as goal

@@ -1,6 +1,6 @@
 use Rattle.std.proofs.Common.{◌≡◌, length}
 use Rattle.pgp_core.specs.Lines.{lines_of}
-use Rattle.pgp_whole.specs.Entries.{IsReadTo}
+use Rattle.pgp_whole.specs.kept.Entries.{IsReadTo}
 use Rattle.pgp_whole.proofs.entries.read_entries.Given as goal
 
 abbrev pub invariant-loop-line : goal.invariant-loop-line

@@ -1,5 +1,5 @@
 use Rattle.pgp_group.proofs.Common.{◌≡◌, Some, true, ap, map, refl, subst, sym, ◌∙◌, arith, is_some, option_map, option_copied, Info, IsLogOf, GroupLog, AreHeard, reported, has_whole_log, others_heard, peer_missing, present_members, member_log, best}
-use Rattle.pgp_group.specs.Parts.{AreLogsHeard}
+use Rattle.pgp_group.specs.kept.Parts.{AreLogsHeard}
 use Rattle.pgp_group.proofs.PartLemmas.{best-is, log-there, no-log, no-whole, present-is, states-whole, whole-best}
 use Rattle.pgp_group.proofs.group.Group.best_copy.Goals as goal
 use Rattle.pgp_group.proofs.group.Group.best_copy.Goals.{After-whole, in-Some-log_of, in-None}

@@ -1,6 +1,6 @@
 use Rattle.pgp_group.proofs.Common.{rules}
 use Rattle.std.proofs.lemmas.Fn.{filter_same}
-use Rattle.pgp_group.specs.KeptReports.{counts_log}
+use Rattle.pgp_group.specs.kept.KeptReports.{counts_log}
 use Rattle.pgp_group.proofs.logs.Logs.keep_counted.Goals as goal
 
 pub returns : goal.returns

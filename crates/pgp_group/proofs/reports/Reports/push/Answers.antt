@@ -1,5 +1,5 @@
 use Rattle.pgp_group.proofs.Common.{ap, refl, ◌∙◌, on_ok_weaker, Report}
-use Rattle.pgp_group.specs.InboxOf.{with_arrival}
+use Rattle.pgp_group.specs.kept.InboxOf.{with_arrival}
 use Rattle.pgp_group.proofs.ReportsLemmas.{KeepsReports-new}
 use Rattle.pgp_group.proofs.reports.Reports.push.Goals as goal
 

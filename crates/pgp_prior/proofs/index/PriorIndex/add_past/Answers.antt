@@ -1,7 +1,7 @@
 use Rattle.std.proofs.Common.{◌≡◌, List, ◌++◌, [], ◌∷◌, length, ap, ◌∙◌, subst, arith}
 use Rattle.std.specs.List.{Contains}
 use Rattle.pgp_prior.specs.declared.judged_interval.JudgedInterval.{JudgedInterval}
-use Rattle.pgp_prior.specs.Places.{places_of}
+use Rattle.pgp_prior.specs.kept.Places.{places_of}
 use Rattle.pgp_prior.proofs.BasisLemmas.{more, kept}
 use Rattle.pgp_lists.proofs.Results.{on_err}
 use Rattle.pgp_prior.proofs.index.PriorIndex.add_past.Goals as goal

@@ -3,7 +3,7 @@ use Rattle.std.specs.List.{filter, flat_map}
 use Rattle.pgp_ids.specs.Member.{is_before}
 use Rattle.pgp_lists.specs.Ordered.{ascending}
 use Rattle.pgp_prior.specs.Members.{members_of}
-use Rattle.pgp_prior.specs.KeptLists.{kept_matters, kept_blocks, up_of, down_of}
+use Rattle.pgp_prior.specs.kept.KeptLists.{kept_matters, kept_blocks, up_of, down_of}
 use Rattle.pgp_prior.proofs.Lists.{IsWalk}
 use Rattle.pgp_prior.proofs.index.PriorIndex.prior.Given as goal
 

@@ -3,7 +3,7 @@ use Rattle.std.specs.List.{Contains}
 use Rattle.std.specs.Vec.{with_item}
 use Rattle.std.proofs.lemmas.List.Elements.{All-contains, All-contains_itself, All-set, All-weaker}
 use Rattle.std.proofs.lemmas.Option.{slice_get-get_or}
-use Rattle.pgp_prior.specs.JudgedInterval.{IsKept}
+use Rattle.pgp_prior.specs.kept.JudgedInterval.{IsKept}
 use Rattle.pgp_prior.proofs.BasisLemmas.{raised}
 use Rattle.pgp_prior.proofs.RaisedLemmas.{raised_at-beyond, raised_at-set}
 use Rattle.pgp_prior.proofs.WayLemmas.{at-contains}

@@ -5,8 +5,8 @@ use Rattle.std.proofs.lemmas.List.{drop_more, drop_all}
 use Rattle.std.proofs.lemmas.Option.{slice_get-get_or}
 use Rattle.std.proofs.Math.Seq.{map-set_same}
 use Rattle.pgp_lists.proofs.Members.{contains-map}
-use Rattle.pgp_prior.specs.JudgedInterval.{past_of}
-use Rattle.pgp_prior.specs.Places.{places_of}
+use Rattle.pgp_prior.specs.kept.JudgedInterval.{past_of}
+use Rattle.pgp_prior.specs.kept.Places.{places_of}
 use Rattle.pgp_prior.proofs.BasisLemmas.{way-start, change-here, renewed}
 use Rattle.pgp_prior.proofs.KeptLemmas.{change-again}
 use Rattle.pgp_prior.proofs.WayLemmas.{written, at-contains, way-renewed, way-past, way-done}

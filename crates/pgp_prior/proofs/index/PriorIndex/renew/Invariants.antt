@@ -1,7 +1,7 @@
 use Rattle.std.proofs.Common.{◌≡◌, ℕ, drop, map}
 use Rattle.pgp_sets.specs.declared.status.Status.{Status}
 use Rattle.pgp_prior.specs.Changes.{allows, IsChange}
-use Rattle.pgp_prior.specs.JudgedInterval.{past_of, IsUnderWay}
+use Rattle.pgp_prior.specs.kept.JudgedInterval.{past_of, IsUnderWay}
 use Rattle.pgp_prior.proofs.index.PriorIndex.renew.Given as goal
 
 -- the intervals at the places so far are renewed

@@ -3,7 +3,7 @@ use Rattle.std.specs.Vec.{with_items}
 use Rattle.std.proofs.lemmas.Grind.{common_steps}
 use Rattle.std.proofs.lemmas.List.{take_all, drop_all}
 use Rattle.std.proofs.lemmas.List.Edits.{map_over_more}
-use Rattle.pgp_prior.specs.JudgedInterval.{past_of, later_les}
+use Rattle.pgp_prior.specs.kept.JudgedInterval.{past_of, later_les}
 use Rattle.pgp_prior.proofs.BasisLemmas.{later}
 use Rattle.pgp_prior.proofs.IndexLemmas.{pasts-later}
 use Rattle.pgp_prior.proofs.WayLemmas.{written}

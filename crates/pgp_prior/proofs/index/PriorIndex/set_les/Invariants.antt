@@ -1,5 +1,5 @@
 use Rattle.std.proofs.Common.{◌≡◌, ◌++◌, take, drop, map}
-use Rattle.pgp_prior.specs.JudgedInterval.{later_les}
+use Rattle.pgp_prior.specs.kept.JudgedInterval.{later_les}
 use Rattle.pgp_prior.proofs.index.PriorIndex.set_les.Given as goal
 
 -- the intervals so far have the later epoch

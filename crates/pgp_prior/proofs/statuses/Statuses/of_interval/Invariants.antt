@@ -1,6 +1,6 @@
 use Rattle.std.proofs.Common.{◌≡◌, ◌++◌, map}
 use Rattle.pgp_prior.specs.Members.{members_of}
-use Rattle.pgp_prior.specs.KnownStatuses.{known_of}
+use Rattle.pgp_prior.specs.kept.KnownStatuses.{known_of}
 use Rattle.pgp_prior.proofs.statuses.Statuses.of_interval.Given as goal
 
 -- what is known so far, with the members that are left, is what is known of all

@@ -2,7 +2,7 @@ use Rattle.std.proofs.Common.{arith}
 use Rattle.std.proofs.lemmas.Bool.Decides.{nat_tests}
 use Rattle.std.proofs.lemmas.Grind.{common_steps}
 use Rattle.std.proofs.lemmas.List.Edits.{map_over_more}
-use Rattle.pgp_prior.specs.KnownStatuses.{renamed}
+use Rattle.pgp_prior.specs.kept.KnownStatuses.{renamed}
 use Rattle.pgp_prior.proofs.statuses.Statuses.set.Goals as goal
 
 pub loop-known-preserved : goal.loop-known-preserved

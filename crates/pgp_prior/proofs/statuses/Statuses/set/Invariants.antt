@@ -1,5 +1,5 @@
 use Rattle.std.proofs.Common.{◌≡◌, ◌++◌, take, drop, map}
-use Rattle.pgp_prior.specs.KnownStatuses.{renamed}
+use Rattle.pgp_prior.specs.kept.KnownStatuses.{renamed}
 use Rattle.pgp_prior.proofs.statuses.Statuses.set.Given as goal
 
 -- the entries so far are renamed

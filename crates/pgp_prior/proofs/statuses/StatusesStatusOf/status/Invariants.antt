@@ -1,5 +1,5 @@
 use Rattle.std.proofs.Common.{◌≡◌, drop}
-use Rattle.pgp_prior.specs.KnownStatuses.{status_or_gone}
+use Rattle.pgp_prior.specs.kept.KnownStatuses.{status_or_gone}
 use Rattle.pgp_prior.proofs.statuses.StatusesStatusOf.status.Given as goal
 
 -- no entry so far is of the device

@@ -1,7 +1,7 @@
 use Rattle.std.proofs.Common.{◌≡◌, arith}
 use Rattle.std.proofs.lemmas.Grind.{common_steps}
 use Rattle.std.proofs.lemmas.Result.{IfOk-weaker}
-use Rattle.pgp_reasons.specs.Shape.{IsEach}
+use Rattle.pgp_reasons.specs.kept.Shape.{IsEach}
 use Rattle.pgp_reasons.proofs.ShapeLemmas.{each-both, each-none}
 use Rattle.pgp_reasons.proofs.shape.ShapeWalk.+is_each.Goals as goal
 

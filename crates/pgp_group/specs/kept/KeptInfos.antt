@@ -5,7 +5,7 @@ use Rattle.pgp_info.specs.Best.{HasDistinctMembers}
 use Rattle.pgp_map.specs.Map.{epoch}
 use Rattle.pgp_group.specs.GroupLog.{GroupLog, incs, infos}
 use Rattle.pgp_group.specs.Heard.{is_counted, last_of_each_member, les}
-use Rattle.pgp_group.specs.InboxOf.{IsInboxOf}
+use Rattle.pgp_group.specs.kept.InboxOf.{IsInboxOf}
 use Rattle.pgp_group.specs.declared.infos.Infos.{Infos}
 
 -- the info counts

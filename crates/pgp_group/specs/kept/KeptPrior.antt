@@ -9,7 +9,7 @@ use Rattle.pgp_prior.specs.declared.index.PriorIndex.{PriorIndex}
 use Rattle.pgp_sets.specs.Status.{status, held_status}
 use Rattle.pgp_group.specs.GroupLog.{GroupLog, incs}
 use Rattle.pgp_group.specs.Heard.{les}
-use Rattle.pgp_group.specs.DeviceFacts.{HasEachMember, GivesEach, AreOfMap}
+use Rattle.pgp_group.specs.kept.DeviceFacts.{HasEachMember, GivesEach, AreOfMap}
 use Rattle.pgp_group.specs.Peering.{past}
 use Rattle.pgp_group.specs.declared.device_facts.DeviceFacts.{DeviceFacts}
 use Rattle.pgp_group.specs.declared.kept_prior.KeptPrior.{KeptPrior}

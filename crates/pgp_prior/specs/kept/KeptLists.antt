@@ -4,7 +4,7 @@ use Rattle.pgp_ids.specs.declared.member.Member.{Member}
 use Rattle.pgp_prior.specs.declared.judged_interval.JudgedInterval.{JudgedInterval}
 use Rattle.pgp_sets.specs.declared.status.Status.{Status}
 use Rattle.pgp_prior.specs.Blocks.{is_up_status, matters, acting_where, down_osds}
-use Rattle.pgp_prior.specs.KnownStatuses.{status_or_gone}
+use Rattle.pgp_prior.specs.kept.KnownStatuses.{status_or_gone}
 
 -- the statuses that are kept with the interval
 abbrev pub kept_status : JudgedInterval → ℕ → ℕ → Status

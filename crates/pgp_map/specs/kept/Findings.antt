@@ -1,12 +1,20 @@
 -- The tests that an incremental that changes this map fails, in which nothing is twice, its tree aside.
-use Rattle.std.specs.Prelude.{◌≡◌, List, false, Option, Some, None, if◌then◌else◌}
+use Rattle.std.specs.Prelude.{◌≡◌, ℕ, Bool, List, false, not, nat_eq, ◌||◌, Option, Some, None, if◌then◌else◌}
+use Rattle.std.specs.HashMap.{HashMap}
+use Rattle.std.specs.List.{list_any}
 use Rattle.pgp_ids.specs.declared.incremental.Incremental.{Incremental}
 use Rattle.pgp_map.specs.declared.fault.MapFault.{MapFault}
 use Rattle.pgp_map.specs.declared.fault.MapFault.TheVariants.{UnknownDevice, AlreadyUp, AlreadyDown, StillUp, UpThruBack, Ahead, BadPool, PoolKnown, BadTemp}
 use Rattle.pgp_map.specs.declared.findings.Findings.{Findings}
+use Rattle.pgp_tables.specs.DeviceTable.{device_at}
+use Rattle.pgp_tables.specs.declared.device.Device.{Device}
 use Rattle.pgp_map.specs.MapFault.{has_unknown_device, has_already_up, has_already_down, has_still_up, has_up_thru_back, has_ahead, has_bad_pool, has_pool_known, has_bad_temp}
 
--- the first of them
+-- the device is absent from the table, and isn't one of those that boot
+abbrev pub is_unknown : {S : Type 0} → HashMap ℕ Device S → List ℕ → ℕ → Bool
+is_unknown table boots osd = not ((device_at table osd).exists || list_any (nat_eq osd) boots)
+
+-- the first of the tests that are failed
 abbrev pub first_of : Findings → Option MapFault
 first_of f =
     if f.unknown_device then Some UnknownDevice

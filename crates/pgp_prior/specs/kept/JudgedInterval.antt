@@ -6,7 +6,7 @@ use Rattle.pgp_sets.specs.declared.status.Status.{Status}
 use Rattle.pgp_prior.specs.declared.judged_interval.JudgedInterval.{JudgedInterval}
 use Rattle.pgp_prior.specs.Members.{members_of}
 use Rattle.pgp_prior.specs.Blocks.{matters, blocks}
-use Rattle.pgp_prior.specs.KnownStatuses.{status_in}
+use Rattle.pgp_prior.specs.kept.KnownStatuses.{status_in}
 
 -- the status of each acting member is known, and whether the interval blocks
 pub record IsKept (enough : List ℕ → Bool) (by_place : Bool) (status : ℕ → ℕ → Status) (les : ℕ) (kept : JudgedInterval) : Type 0 where

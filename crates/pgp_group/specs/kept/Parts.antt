@@ -7,7 +7,7 @@ use Rattle.pgp_ids.specs.declared.report.Info.{Info}
 use Rattle.pgp_missing.specs.Kept.{IsLogOf}
 use Rattle.pgp_group.specs.GroupLog.{GroupLog, reports}
 use Rattle.pgp_group.specs.Heard.{heard, reported}
-use Rattle.pgp_group.specs.KeptReports.{AreLogsOf, member_log}
+use Rattle.pgp_group.specs.kept.KeptReports.{AreLogsOf, member_log}
 use Rattle.pgp_group.specs.Peering.{leader, best, whole_best, peer_states}
 use Rattle.pgp_group.specs.Prefers.{prefers}
 use Rattle.pgp_group.specs.declared.logs.CountedLog.{CountedLog}

@@ -9,7 +9,7 @@ use Rattle.pgp_map.specs.Map.{epoch}
 use Rattle.pgp_missing.specs.Log.{by_number}
 use Rattle.pgp_group.specs.GroupLog.{GroupLog, incs, reports}
 use Rattle.pgp_group.specs.Heard.{is_counted}
-use Rattle.pgp_group.specs.InboxOf.{IsInboxOf}
+use Rattle.pgp_group.specs.kept.InboxOf.{IsInboxOf}
 use Rattle.pgp_group.specs.declared.logs.CountedLog.{CountedLog}
 use Rattle.pgp_group.specs.declared.reports.Reports.{Reports}
 

@@ -1,0 +1,2 @@
+-- What a checked tree keeps beside its buckets. Contracts of private calls cite it.
+pub mod Indexed

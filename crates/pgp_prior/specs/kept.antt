@@ -1,0 +1,5 @@
+-- What an index keeps of past intervals. Contracts of private calls cite it.
+pub mod KnownStatuses
+pub mod JudgedInterval
+pub mod KeptLists
+pub mod Places
