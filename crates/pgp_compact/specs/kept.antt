@@ -1,4 +1,4 @@
--- What compaction keeps while it reads a log. Contracts of private calls cite it.
+-- What compaction keeps while it reads a log. Invariants, and contracts of private calls, cite it.
 pub mod Greatest
 pub mod Standing
 pub mod Course

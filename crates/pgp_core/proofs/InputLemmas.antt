@@ -2,8 +2,8 @@
 use Rattle.std.proofs.Common.{◌≡◌, ℕ, ◌+◌, ◌-◌, ◌<◌, ◌≤◌, List, [], ◌∷◌, ◌++◌, false, length, sym, ap, ◌∙◌, append_assoc, arith}
 use Rattle.std.specs.List.{list_any}
 use Rattle.std.proofs.lemmas.List.{length-append}
-use Rattle.pgp_core.specs.Input.{HasRead}
-use Rattle.pgp_core.specs.Line.{HoldsLine}
+use Rattle.pgp_core.specs.kept.Input.{HasRead}
+use Rattle.pgp_core.specs.kept.Line.{HoldsLine}
 use Rattle.pgp_core.specs.Lines.{LinesAndRest, is_line_feed, cut}
 use Rattle.pgp_core.specs.declared.input.Bounds.{Bounds}
 use Rattle.pgp_core.specs.declared.input.Input.{Input}

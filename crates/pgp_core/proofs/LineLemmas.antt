@@ -12,7 +12,7 @@ use Rattle.pgp_core.specs.Wants.{want_of, LacksReply}
 use Rattle.pgp_core.specs.Answer.{line_text}
 use Rattle.pgp_core.specs.Lines.{is_blank}
 use Rattle.pgp_core.specs.Script.{longest_line, MayMeet}
-use Rattle.pgp_core.specs.Line.{KeptBy, HoldsLine}
+use Rattle.pgp_core.specs.kept.Line.{KeptBy, HoldsLine}
 use Rattle.pgp_core.specs.WrittenFor.{PutsText, PutsLine, MayLack}
 use Rattle.pgp_core.specs.declared.line.Fate.TheVariants.{TooLong, NoMemory}
 use Rattle.pgp_core.specs.declared.line.LineBuffer.{LineBuffer}

@@ -9,12 +9,13 @@ use Rattle.std.proofs.lemmas.List.{length-append}
 use Rattle.pgp_ids.specs.declared.entry.Entry.{Entry}
 use Rattle.pgp_lines.specs.declared.command.format.Format.{Format}
 use Rattle.pgp_core.specs.Lines.{is_line_feed, cut, last_line, lines_of}
-use Rattle.pgp_core.specs.Line.{HoldsLine}
-use Rattle.pgp_core.specs.Input.{HasRead}
+use Rattle.pgp_core.specs.kept.Line.{HoldsLine}
+use Rattle.pgp_core.specs.kept.Input.{HasRead}
 use Rattle.pgp_core.specs.Output.{WrittenPart, FrontWent}
 use Rattle.pgp_core.specs.Script.{IsBeyond, Within, whole_lines}
 use Rattle.pgp_core.specs.WrittenFor.{IsWrittenFor, PutsLine, StartsLeft}
-use Rattle.pgp_core.specs.Telling.{AreAnswered, RunStart, IsAfterBytes, IsAnsweredWhole, WentBy, IsStopped, StoppedAtLast, ChunkPart}
+use Rattle.pgp_core.specs.Telling.{AreAnswered, RunStart, IsAnsweredWhole, WentBy, IsStopped, StoppedAtLast}
+use Rattle.pgp_core.specs.kept.Progress.{IsAfterBytes, ChunkPart}
 use Rattle.pgp_core.specs.declared.input.Bounds.{Bounds}
 use Rattle.pgp_core.specs.declared.input.Input.{Input}
 use Rattle.pgp_core.specs.declared.script.Script.{Script}

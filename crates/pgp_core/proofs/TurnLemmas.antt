@@ -8,7 +8,8 @@ use Rattle.pgp_core.specs.Account.{Account, ReadFailedBy}
 use Rattle.pgp_core.specs.Lines.{cut}
 use Rattle.pgp_core.specs.Script.{whole_lines}
 use Rattle.pgp_core.specs.WrittenFor.{StartsLeft}
-use Rattle.pgp_core.specs.Telling.{RunStart, AreAnswered, IsAfterBytes, IsStopped, WentBy, StopsIn, StoppedAtLast, Reads, Stops, WasStopped}
+use Rattle.pgp_core.specs.Telling.{RunStart, AreAnswered, IsStopped, WentBy, StoppedAtLast, Stops, WasStopped}
+use Rattle.pgp_core.specs.kept.Progress.{IsAfterBytes, StopsIn, Reads}
 use Rattle.pgp_core.specs.declared.input.Bounds.{Bounds}
 use Rattle.pgp_core.specs.declared.output.Output.{Output}
 use Rattle.pgp_core.specs.declared.script.Script.{Script}

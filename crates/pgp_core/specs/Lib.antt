@@ -3,8 +3,6 @@ pub mod Answer
 pub mod Answerer
 pub mod Lines
 pub mod Script
-pub mod Line
-pub mod Input
 pub mod Output
 pub mod Wants
 pub mod WrittenFor
@@ -14,6 +12,7 @@ pub mod Run
 pub mod Whole
 pub mod Added
 pub mod Telling
+pub mod kept
 pub mod Session
 pub mod Changed
 pub mod Examples

@@ -4,14 +4,12 @@ use Rattle.std.specs.Prelude.{◌≡◌, ◌≢◌, ◌⊎◌, ℕ, List, [], �
 use Rattle.std.specs.Io.KnownBytes.{Appends, Consumes, IsAtEnd}
 use Rattle.pgp_ids.specs.declared.entry.Entry.{Entry}
 use Rattle.pgp_lines.specs.declared.command.format.Format.{Format}
-use Rattle.pgp_core.specs.Lines.{cut, lines_of}
+use Rattle.pgp_core.specs.Lines.{lines_of}
 use Rattle.pgp_core.specs.Script.{IsBeyond, Within, whole_lines}
 use Rattle.pgp_core.specs.Output.{WrittenPart, FrontWent}
-use Rattle.pgp_core.specs.Input.{HasRead}
 use Rattle.pgp_core.specs.WrittenFor.{AreWrittenFor, StartsLeft}
 use Rattle.pgp_core.specs.Account.{Account, NoCallFailed, FailedBy}
 use Rattle.pgp_core.specs.declared.input.Bounds.{Bounds}
-use Rattle.pgp_core.specs.declared.script.Script.{Script}
 use Rattle.pgp_core.specs.declared.fault.ScriptFault.{ScriptFault}
 use Rattle.pgp_core.specs.declared.fault.ScriptFault.TheVariants.{Read, Write, Gone}
 
@@ -52,25 +50,6 @@ pub record IsStopped (alone : Bool) (start : RunStart) (fault : ScriptFault) (no
   pub all : fault ≡ Read → others ≡ []
   pub left : fault ≡ Gone → StartsLeft alone start.format others
 
--- ---- bytes
-
--- These bytes were read, by a reader of lines up to that version, and the answers to the lines that have ended are written or pending.
-pub record IsAfterBytes (alone : Bool) (start : RunStart) (script : Script) (log : List Entry) (now : Option (List ℕ)) (bytes : List ℕ) : Type 0 where
-  pub format : script.codec.reader.format ≡ start.format
-  pub read : HasRead start.bounds script.input bytes
-  pub answered : AreAnswered alone start (cut bytes).whole log now script.output.pending.items
-
--- The run stopped in these bytes: at a read fault, they are more than the bounds allow.
-pub record StopsIn (alone : Bool) (start : RunStart) (fault : ScriptFault) (now : Option (List ℕ)) (bytes : List ℕ) : Type 0 where
-  pub stopped : IsStopped alone start fault now (whole_lines start.bounds bytes)
-  pub beyond : fault ≡ Read → IsBeyond start.bounds bytes
-
--- the part of the chunk before `rest` was taken
-pub record ChunkPart (alone : Bool) (old new : Script) (before after : List Entry) (was now : Option (List ℕ)) (chunk rest : List ℕ) : Type 0 where
-  pub done : List ℕ
-  pub whole : done ++ rest ≡ chunk
-  pub goes : (start : RunStart) (bytes : List ℕ) → IsAfterBytes alone start old before was bytes → IsAfterBytes alone start new after now (bytes ++ done)
-
 -- ---- the whole script
 
 -- It is within the bounds, and the answers to its lines are written, except for what is pending of them.
@@ -86,13 +65,7 @@ pub record StoppedAtLast (alone : Bool) (start : RunStart) (fault : ScriptFault)
 
 -- ---- the reader
 
--- It gave these bytes, which were read, and the answers to the lines that have ended in them are written or pending.
-pub record Reads (alone : Bool) (start : RunStart) (script : Script) (log : List Entry) (from to now : Option (List ℕ)) : Type 0 where
-  pub bytes : List ℕ
-  pub consumed : Consumes from to bytes
-  pub after : IsAfterBytes alone start script log now bytes
-
--- It gave these bytes, and the run stopped: in the lines that were read whole or, after the reader's end, in all lines. A read
+-- The reader gave these bytes, and the run stopped: in the lines that were read whole or, after the reader's end, in all lines. A read
 -- failed, or the script is too large, or a write failed, or nobody answers any more.
 pub record Stops (alone : Bool) (start : RunStart) (fault : ScriptFault) (from to now : Option (List ℕ)) (read_failed : Bool) : Type 0 where
   pub script : List ℕ

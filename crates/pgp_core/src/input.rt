@@ -3,7 +3,7 @@
 ghost use Rattle.std.specs.Prelude.{◌≡◌, ◌⊎◌, ◌↔◌, ℕ, ◌+◌, ◌-◌, ◌<◌, ◌≤◌, List, [], ◌∷◌, ◌++◌, false, IsTrue, IfSome, IfNone, length, take};
 ghost use Rattle.std.specs.List.{list_any};
 ghost use Rattle.pgp_core.specs.Lines.{is_line_feed};
-ghost use Rattle.pgp_core.specs.Input.{HasRead};
+ghost use Rattle.pgp_core.specs.kept.Input.{HasRead};
 ghost use Rattle.pgp_core.specs.declared.input.Input.{Input as AnyInput};
 
 use super::line::LineBuffer;

@@ -2,7 +2,7 @@
 
 ghost use Rattle.std.specs.Prelude.{◌≡◌, ◌≤◌, ℕ, List, [], ◌∷◌, ◌++◌, IfSome, None, false, length};
 ghost use Rattle.pgp_core.specs.Answer.{long_text};
-ghost use Rattle.pgp_core.specs.Line.{KeptBy, HoldsLine};
+ghost use Rattle.pgp_core.specs.kept.Line.{KeptBy, HoldsLine};
 ghost use Rattle.pgp_core.specs.Lines.{is_blank};
 ghost use Rattle.pgp_core.specs.Script.{longest_line, want_text};
 ghost use Rattle.pgp_core.specs.WrittenFor.{IsLeft, PutsLine};

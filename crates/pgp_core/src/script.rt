@@ -3,10 +3,11 @@
 ghost use Rattle.std.specs.Prelude.{◌≡◌, ◌≢◌, ℕ, ◌+◌, ◌<◌, List, [], ◌∷◌, ◌++◌, Bool, true, Option, OnOk, IfOk, IfErr, length};
 ghost use Rattle.std.specs.Io.KnownBytes.{IsAtEnd};
 ghost use Rattle.pgp_ids.specs.declared.entry.Entry.{Entry};
-ghost use Rattle.pgp_core.specs.Line.{HoldsLine};
+ghost use Rattle.pgp_core.specs.kept.Line.{HoldsLine};
 ghost use Rattle.pgp_core.specs.Account.{account, ReadsFailed, WritesFailed};
 ghost use Rattle.pgp_core.specs.Run.{AllAnswered, Stopped, bounds_of, script_bounds};
-ghost use Rattle.pgp_core.specs.Telling.{AreAnswered, RunStart, IsAfterBytes, IsAnsweredWhole, IsStopped, StoppedAtLast, StopsIn, Reads, Stops, RanToEnd, WasStopped, run_start};
+ghost use Rattle.pgp_core.specs.Telling.{AreAnswered, RunStart, IsAnsweredWhole, IsStopped, StoppedAtLast, Stops, RanToEnd, WasStopped, run_start};
+ghost use Rattle.pgp_core.specs.kept.Progress.{IsAfterBytes, StopsIn, Reads};
 
 use super::answer::Answerer;
 use super::codec::Codec;

@@ -6,8 +6,8 @@ use Rattle.std.specs.declared.sync.Arc.{Arc}
 use Rattle.pgp_ids.specs.declared.entry.Entry.{Entry}
 use Rattle.pgp_log.specs.Log.{IsFrontOf, is_legal}
 use Rattle.pgp_feed.proofs.Fronts.{front_self}
-use Rattle.pgp_engine.specs.Clients.{IsChartOf, IsChartWithin}
-use Rattle.pgp_engine.specs.Followers.{HasTakenFront, HasTakenMore, HasTakenFewer}
+use Rattle.pgp_engine.specs.kept.Members.{IsChartOf, IsChartWithin}
+use Rattle.pgp_engine.specs.kept.Followers.{HasTakenFront, HasTakenMore, HasTakenFewer}
 use Rattle.pgp_engine.specs.declared.client.chart.Chart.{Chart}
 use Rattle.pgp_engine.proofs.FrontLemmas.{filled, front_same, front_short}
 

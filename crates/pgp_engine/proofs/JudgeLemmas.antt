@@ -7,7 +7,7 @@ use Rattle.pgp_log.specs.Judge.{IsJudgeOf, OfItsLog}
 use Rattle.pgp_feed.specs.declared.receipt.Receipt.{Receipt}
 use Rattle.pgp_feed.specs.Receipts.{entries_of}
 use Rattle.pgp_feed.proofs.Fronts.{front_self}
-use Rattle.pgp_engine.specs.Fronts.{Follows}
+use Rattle.pgp_engine.specs.kept.Members.{Follows}
 
 pub follows_log : (log : List Entry) (judge : Judge) → IsJudgeOf log judge → Follows log judge
 follows_log log judge is = record { taken = log; is_front = front_self log; is = is }

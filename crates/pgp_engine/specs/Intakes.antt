@@ -1,18 +1,17 @@
--- What an intake keeps, and what a submit is answered.
+-- An intake, and what a submit is answered.
 use Rattle.std.specs.Prelude.{ℕ, ◌≡◌, ◌≢◌, ◌<◌, ◌⊎◌, List, [], ◌∷◌, ◌++◌, length, true, Some, None}
 use Rattle.logbook.specs.Pages.{Book}
 use Rattle.pgp_ids.specs.declared.refusal.Refusal.{Refusal}
 use Rattle.pgp_ids.specs.declared.refusal.Refusal.TheVariants as refusal
 use Rattle.pgp_ids.specs.declared.entry.Entry.{Entry}
-use Rattle.pgp_log.specs.declared.judge.Judge.{Judge}
 use Rattle.pgp_log.specs.Fits.{fits}
 use Rattle.pgp_log.specs.Judge.{MapMayLack}
 use Rattle.pgp_log.specs.Log.{is_legal}
 use Rattle.pgp_feed.specs.declared.receipt.Receipt.{Receipt}
-use Rattle.pgp_feed.specs.Receipts.{entries_of, feed_of, Holds}
+use Rattle.pgp_feed.specs.Receipts.{entries_of, Holds}
 use Rattle.pgp_engine.specs.declared.fault.SubmitFault.{SubmitFault}
 use Rattle.pgp_engine.specs.declared.fault.SubmitFault.TheVariants.{Refused, Memory, NoReader}
-use Rattle.pgp_engine.specs.Fronts.{Names, Follows}
+use Rattle.pgp_engine.specs.Fronts.{Names}
 
 -- an intake: the log that was told so far, and how many entries of it the judge has taken
 pub record ToldLog : Type 0 where
@@ -22,12 +21,6 @@ pub record ToldLog : Type 0 where
 -- the judge has to take some of the log
 abbrev pub HasToJudge : ToldLog → Type 0
 HasToJudge told = told.judged < length told.log
-
--- the told receipt and the one that the tap gave last are of this feed, and the judge has taken a front of what was told
-pub record IsIntake (feed : Book) (told last : Receipt) (judge : Judge) : Type 0 where
-  pub told_is : feed_of told ≡ feed
-  pub last_is : feed_of last ≡ feed
-  pub judge_is : Follows (entries_of told) judge
 
 -- the entry doesn't fit the log, for this reason, which is another than out of memory; and the receipt names that log
 pub record IsRefused (feed : Book) (log : List Entry) (entry : Entry) (why : Refusal) (at : Receipt) : Type 0 where

@@ -1,6 +1,5 @@
 pub mod Clients
 pub mod Faults
-pub mod Followers
 pub mod Fronts
 pub mod Intakes
 pub mod Shards
@@ -8,3 +7,4 @@ pub mod Shown
 pub mod Asks
 pub mod Sizes
 pub mod Works
+pub mod kept

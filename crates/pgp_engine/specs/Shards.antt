@@ -1,6 +1,5 @@
 -- A shard that reads the feed, and what it does.
 use Rattle.std.specs.Prelude.{◌≡◌, ℕ, ◌+◌, ◌<◌, ◌⊎◌, List, length, Option, is_some, true}
-use Rattle.logbook.specs.Pages.{Book}
 use Rattle.pgp_ids.specs.declared.entry.Entry.{Entry}
 use Rattle.pgp_ids.specs.declared.pg_id.PgId.{PgId}
 use Rattle.pgp_map.specs.Pools.{has_group}
@@ -8,8 +7,7 @@ use Rattle.pgp_group.specs.Entries.{incs_of}
 use Rattle.pgp_log.specs.Log.{front, IsFrontOf}
 use Rattle.pgp_shard.specs.Shard.{AreUnmarked, HasReadSame, Shard, WorkedGroup, is_own}
 use Rattle.pgp_feed.specs.declared.receipt.Receipt.{Receipt}
-use Rattle.pgp_feed.specs.Receipts.{entries_of, feed_of}
-use Rattle.pgp_engine.specs.Fronts.{Names}
+use Rattle.pgp_feed.specs.Receipts.{entries_of}
 
 -- the entries that the shard has read, its number, how many shards there are, its marks (the groups that have to be worked out,
 -- where it keeps what follows from the entries), when its groups were worked out, and the front that its tap gave last
@@ -28,12 +26,6 @@ state_of s = record { front = s.front; shard = s.shard; shards = s.shards; marks
 -- the group is one of the shard's own
 abbrev pub Serves : Reader → PgId → Type 0
 Serves s pg = is_own s.shard s.shards pg ≡ true
-
--- what a shard keeps: its receipt names the entries that it has read, which its tap has given
-pub record IsReader (feed : Book) (state : Shard) (stored last : Receipt) : Type 0 where
-  pub named : Names feed state.front stored
-  pub last_is : feed_of last ≡ feed
-  pub seen : IsFrontOf state.front (entries_of last)
 
 -- it is the same shard still, and has read and seen no less
 pub record GoesOn (old new : Reader) : Type 0 where

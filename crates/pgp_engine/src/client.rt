@@ -37,7 +37,8 @@ impl<J: Naming> Drop for Client<J> {
 }
 
 impl<J: Naming> Model for Client<J> {
-    ghost use Rattle.pgp_engine.specs.Clients.{IsClientOf, Placer};
+    ghost use Rattle.pgp_engine.specs.Clients.{Placer};
+    ghost use Rattle.pgp_engine.specs.kept.Members.{IsClientOf};
 
     ghost Value = { Placer };
 

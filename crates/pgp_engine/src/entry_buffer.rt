@@ -5,7 +5,7 @@ ghost use Rattle.pgp_ids.specs.declared.entry.Entry.{Entry as AnyEntry};
 ghost use Rattle.pgp_log.specs.Log.{IsFrontOf};
 ghost use Rattle.pgp_feed.specs.Receipts.{entries_of, feed_of, Holds};
 ghost use Rattle.pgp_feed.specs.Taps.{last_of};
-ghost use Rattle.pgp_engine.specs.Followers.{HasTakenFewer, HasTakenFront, HasTakenMore};
+ghost use Rattle.pgp_engine.specs.kept.Followers.{HasTakenFewer, HasTakenFront, HasTakenMore};
 ghost use Rattle.pgp_engine.specs.declared.entry_buffer.TheConstants.{KEPT_PLACES};
 
 use crate::follower::{Follower, take_all};

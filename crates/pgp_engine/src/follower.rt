@@ -4,7 +4,7 @@ ghost use Rattle.std.specs.Arc.{arc_value};
 ghost use Rattle.pgp_ids.specs.declared.entry.Entry.{Entry as AnyEntry};
 ghost use Rattle.pgp_log.specs.Fits.{fits};
 ghost use Rattle.pgp_log.specs.Log.{is_legal};
-ghost use Rattle.pgp_engine.specs.Followers.{CanTakeAll, CanTakeNext, HasTakenFewer, HasTakenMore};
+ghost use Rattle.pgp_engine.specs.kept.Followers.{CanTakeAll, CanTakeNext, HasTakenFewer, HasTakenMore};
 
 use pgp_ids::Entry;
 use std::alloc::AllocError;

@@ -26,7 +26,8 @@ impl<J: Naming> Model for Intake<J> {
     ghost use Rattle.pgp_feed.specs.Receipts.{entries_of};
     ghost use Rattle.pgp_feed.specs.Feeds.{told_of};
     ghost use Rattle.pgp_feed.specs.Taps.{last_of};
-    ghost use Rattle.pgp_engine.specs.Intakes.{IsIntake, ToldLog};
+    ghost use Rattle.pgp_engine.specs.Intakes.{ToldLog};
+    ghost use Rattle.pgp_engine.specs.kept.Members.{IsIntake};
 
     ghost Value = { ToldLog };
 

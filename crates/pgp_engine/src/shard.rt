@@ -44,7 +44,8 @@ impl<J: Naming> Drop for Shard<J> {
 impl<J: Naming> Model for Shard<J> {
     ghost use Rattle.pgp_feed.specs.Receipts.{entries_of};
     ghost use Rattle.pgp_feed.specs.Taps.{last_of};
-    ghost use Rattle.pgp_engine.specs.Shards.{Reader, IsReader};
+    ghost use Rattle.pgp_engine.specs.Shards.{Reader};
+    ghost use Rattle.pgp_engine.specs.kept.Members.{IsReader};
 
     ghost Value = { Reader };
 

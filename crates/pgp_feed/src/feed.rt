@@ -70,10 +70,11 @@ impl Feed {
         }
     }
 
-    /// The same of an entry that stays with the caller too.
+    /// Adds an entry as [`Feed::publish`] does; the caller stays one of its owners. `Err`: the entry can have no more owners, and
+    /// nothing was added.
     ///
-    /// The exchange that adds it can't be undone. So the second owner is there before, and what follows takes no memory and is
-    /// tried until it succeeds.
+    /// The exchange that adds it can't be undone. So the log's owner is made first, and what follows takes no memory and is tried
+    /// until it succeeds.
     pub fn publish_shared<R: Wait>(
         &mut self,
         rt: &R,

@@ -3,7 +3,7 @@ use Rattle.pgp_group.proofs.Common.{◌≡◌, ℕ, ◌<◌, ◌≤◌, List, []
 use Rattle.std.proofs.lemmas.Map.Views.{any-filter_same}
 use Rattle.pgp_group.proofs.FirstLemmas.{first-within, step-moves}
 use Rattle.pgp_group.specs.kept.InboxOf.{with_arrival}
-use Rattle.pgp_group.specs.kept.KeptInfos.{counts}
+use Rattle.pgp_group.specs.Heard.{counts}
 use Rattle.pgp_group.proofs.GrowthLemmas.{history-last}
 use Rattle.pgp_group.proofs.HeardLemmas.{HasDistinctMembers-last_of, last_of-contains, last_of-snoc}
 use Rattle.pgp_group.proofs.InboxLemmas.{Grows, Grows-none, Grows-one, IsInboxOf-grown, seen-all, seen-grown, seen-sent}

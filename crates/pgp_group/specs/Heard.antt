@@ -22,9 +22,13 @@ is_counted g member stamp =
     && is_up (incs g) member.osd
     && nat_le (up_from (incs g) member.osd) stamp
 
+-- the info counts
+abbrev pub counts : GroupLog → Info → Bool
+counts g info = is_counted g info.member info.stamp
+
 -- the infos of the group that count, in the order in which they came
 abbrev pub counted_infos : GroupLog → List Info
-counted_infos g = filter (λ info. is_counted g info.member info.stamp) (infos g)
+counted_infos g = filter (counts g) (infos g)
 
 -- the last info of each member that has one which counts
 abbrev pub heard : GroupLog → List Info

@@ -1,4 +1,4 @@
--- What a group keeps of its log, and the parts of a view as it finds them. Contracts of private calls cite it.
+-- What a group keeps of its log, and the parts of a view as it finds them. Invariants, and contracts of private calls, cite it.
 pub mod InboxOf
 pub mod KeptInfos
 pub mod KeptReports

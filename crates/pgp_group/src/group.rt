@@ -20,7 +20,7 @@ ghost use Rattle.pgp_map.specs.MapOf.{IsMapOf};
 ghost use Rattle.pgp_map.specs.Pools.{has_group, is_same_group};
 ghost use Rattle.pgp_group.specs.Entries.{inc_of, incs_of};
 ghost use Rattle.pgp_group.specs.GroupHistory.{EpochsAscend, made_at};
-ghost use Rattle.pgp_group.specs.GroupLog.{GroupLog, cleans, group_in, incs};
+ghost use Rattle.pgp_group.specs.GroupLog.{GroupLog, cleans, group_in};
 ghost use Rattle.pgp_group.specs.GroupOf.{Keeps, IsGroupOf, IsSilent, IsThere, TellsNothingAhead};
 ghost use Rattle.pgp_group.specs.Heard.{les};
 ghost use Rattle.pgp_group.specs.kept.KeptPrior.{IsReckoned, KeepsPrior};

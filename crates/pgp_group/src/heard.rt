@@ -6,7 +6,7 @@ ghost use Rattle.pgp_info.specs.Best.{HasDistinctMembers};
 ghost use Rattle.pgp_info.specs.Heard.{with_infos};
 ghost use Rattle.pgp_group.specs.GroupLog.{GroupLog};
 ghost use Rattle.pgp_group.specs.Heard.{has_member, is_counted, last_of_each_member};
-ghost use Rattle.pgp_group.specs.kept.KeptInfos.{counts};
+ghost use Rattle.pgp_group.specs.Heard.{counts};
 ghost use Rattle.pgp_group.specs.Present.{IsPresent};
 
 use pgp_ids::{Epoch, Info, Member};

@@ -7,13 +7,13 @@ ghost use Rattle.pgp_ids.specs.declared.pg_id.PgId.{PgId as Group};
 ghost use Rattle.pgp_crush.specs.Bucket.{bucket_of};
 ghost use Rattle.pgp_map.specs.Alike.{SayTheSame};
 ghost use Rattle.pgp_map.specs.kept.Room.{HasRoom};
-ghost use Rattle.pgp_map.specs.Memory.{is_filled, MayLackMemory, may_grow};
+ghost use Rattle.pgp_map.specs.Memory.{MayLackMemory, may_grow};
 ghost use Rattle.pgp_map.specs.MapOf.{IsMapOf, Says};
 ghost use Rattle.pgp_map.specs.Held.{held_exists, held_groups, held_up, held_lost_at, held_pool};
 ghost use Rattle.pgp_map.specs.Devices.{exists, is_up, up_from, down_at, up_thru, lost_at, weight, weights};
 ghost use Rattle.pgp_map.specs.Pools.{has_group, pool, temp};
 ghost use Rattle.pgp_map.specs.Map.{epoch, tree};
-ghost use Rattle.pgp_map.specs.MapFault.{map_fault, given_fault, then_with, has_epoch_gap, has_unknown_device, has_lost_up, has_still_up, has_ahead, has_bad_pool, has_pool_known, has_bad_temp};
+ghost use Rattle.pgp_map.specs.MapFault.{map_fault, given_fault, then_with, has_epoch_gap, has_unknown_device, has_lost_up, has_still_up, has_ahead, has_bad_pool, has_bad_temp};
 ghost use Rattle.pgp_map.specs.kept.Findings.{AreFindings};
 
 use super::alike::{

@@ -28,6 +28,11 @@ prior_by enough by_place b = prior_set (enough b.code) (by_place b.code) b.statu
 abbrev pub is_down_by : {C : Type 0} → (C → List ℕ → Bool) → (C → Bool) → Basis C → Bool
 is_down_by enough by_place b = is_group_down (enough b.code) (by_place b.code) b.status b.les b.past
 
+-- both tell the same of the acting members of the interval
+abbrev pub AgreeOnMembers : Bool → (ℕ → ℕ → Status) → (ℕ → ℕ → Status) → Past → Type 0
+AgreeOnMembers by_place told status past =
+    (member : Member) → Contains (members_of by_place past.members.acting) member → told member.osd past.first ≡ status member.osd past.first
+
 -- the device of each acting member of a past interval has the place of that interval
 abbrev pub HasEachPlace : Bool → List Past → (ℕ → List ℕ) → Type 0
 HasEachPlace by_place past places =

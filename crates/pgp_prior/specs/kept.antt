@@ -1,4 +1,4 @@
--- What an index keeps of past intervals. Contracts of private calls cite it.
+-- What an index keeps of past intervals. Invariants, and contracts of private calls, cite it.
 pub mod KnownStatuses
 pub mod JudgedInterval
 pub mod KeptLists

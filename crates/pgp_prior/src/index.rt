@@ -2,8 +2,7 @@ ghost use Rattle.std.specs.Prelude.{◌≡◌, ◌≤◌, ℕ, [], ◌∷◌, �
 ghost use Rattle.pgp_sets.specs.declared.status.Status.{Status};
 ghost use Rattle.pgp_prior.specs.Better.{is_no_worse};
 ghost use Rattle.pgp_prior.specs.Changes.{is_no_better, is_same_or_gone, allows, IsChange};
-ghost use Rattle.pgp_prior.specs.kept.JudgedInterval.{AgreeOnMembers};
-ghost use Rattle.pgp_prior.specs.IndexOf.{Basis, IsIndexOf, prior_by, is_down_by};
+ghost use Rattle.pgp_prior.specs.IndexOf.{AgreeOnMembers, Basis, IsIndexOf, prior_by, is_down_by};
 ghost use Rattle.pgp_ids.specs.Past.{raised_at};
 
 use super::additions::{add_down, add_members, add_up};

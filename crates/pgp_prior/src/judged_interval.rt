@@ -1,7 +1,8 @@
 ghost use Rattle.std.specs.Prelude.{◌≡◌, ℕ, IfOk};
 ghost use Rattle.pgp_sets.specs.declared.status.Status.{Status};
 ghost use Rattle.pgp_prior.specs.Changes.{allows, rechecks, IsChangeIn};
-ghost use Rattle.pgp_prior.specs.kept.JudgedInterval.{IsKept, AgreeOnMembers, later_les};
+ghost use Rattle.pgp_prior.specs.IndexOf.{AgreeOnMembers};
+ghost use Rattle.pgp_prior.specs.kept.JudgedInterval.{IsKept, later_les};
 ghost use Rattle.pgp_ids.specs.Past.{with_rw};
 
 use super::blocking::{blocks, matters};

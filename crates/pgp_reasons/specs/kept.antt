@@ -1,3 +1,3 @@
--- How far a search for sets has come. Contracts of private calls cite it.
+-- How far a search for sets has come. Invariants, and contracts of private calls, cite it.
 pub mod Looks
 pub mod Shape

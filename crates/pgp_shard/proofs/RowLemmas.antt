@@ -65,13 +65,13 @@ placed-by : {X Y : Type 0} (f : X → Y) (test : Y → Bool) (found : Option X) 
 placed-by f test found y is = grind arith
 
 -- the group may lie on the devices of its raw set and of its pg_temp list
-pub lies-there : (log : List Entry) (kept : KeptGroup) (osd : ℕ) → IsKeptOf log kept → may_lie_on (incs_of log) kept.pg osd ≡ stands_in kept.raw kept.temp osd
-lies-there log kept osd is =
+pub lies_there : (log : List Entry) (kept : KeptGroup) (osd : ℕ) → IsKeptOf log kept → may_lie_on (incs_of log) kept.pg osd ≡ stands_in kept.raw kept.temp osd
+lies_there log kept osd is =
     ap (λ b. b || has_osd osd (temp (incs_of log) kept.pg)) (placed-by (λ made. raw_set (incs_of log) made kept.pg) (has_osd osd) (pool (incs_of log) kept.pg.pool) kept.raw is.raw_is)
     ∙ ap (λ (l : List (Option ℕ)). has_osd osd kept.raw || has_osd osd l) (sym is.temp_is)
 
 pub any-lies-there : (log : List Entry) (kept : KeptGroup) (osds : List ℕ) → IsKeptOf log kept → list_any (may_lie_on (incs_of log) kept.pg) osds ≡ list_any (stands_in kept.raw kept.temp) osds
-any-lies-there log kept osds is = any-same (may_lie_on (incs_of log) kept.pg) (stands_in kept.raw kept.temp) osds (λ osd. lies-there log kept osd is)
+any-lies-there log kept osds is = any-same (may_lie_on (incs_of log) kept.pg) (stands_in kept.raw kept.temp) osds (λ osd. lies_there log kept osd is)
 
 one-of : {P : Type 0} (a b : Bool) → (a || b) ≡ true → (a ≡ true → P) → (b ≡ true → P) → P
 one-of true b is here there = here refl
@@ -96,7 +96,7 @@ row-is kept marked one two all same raw second temp_list third named = record {
   where
     lies : (log : List Entry) → IsKeptOf log kept → (osd : ℕ) → may_lie_on (incs_of log) kept.pg osd ≡ true → Covers all osd
     lies log is osd lies_on =
-        third osd (either-in (λ o. has_osd o kept.raw) (λ o. has_osd o kept.temp) one two raw second temp_list osd (sym (lies-there log kept osd is) ∙ lies_on))
+        third osd (either-in (λ o. has_osd o kept.raw) (λ o. has_osd o kept.temp) one two raw second temp_list osd (sym (lies_there log kept osd is) ∙ lies_on))
 
 -- ---- a group that is passed by
 
@@ -134,7 +134,7 @@ lightened log inc before after changes row kept says light is holds apart =
     let osd_of : DeviceWeight → ℕ = λ given. given.osd in
     let places = raw_places (incs_of log) kept.pg in
     let lies : (osd : ℕ) → has_osd osd places ≡ true → may_lie_on (incs_of log) kept.pg osd ≡ true = λ osd there.
-    lies-there log kept osd holds ∙ ap (λ b. b || has_osd osd kept.temp) (ap (has_osd osd) (sym (raw-is log kept holds)) ∙ there) in
+    lies_there log kept osd holds ∙ ap (λ b. b || has_osd osd kept.temp) (ap (has_osd osd) (sym (raw-is log kept holds)) ∙ there) in
     let none : list_any (λ osd. has_osd osd places) (map osd_of inc.weight) ≡ false =
     none-passes (λ osd. has_osd osd places) (map osd_of inc.weight)
     (λ osd there given. apart osd (is.lies_on log holds osd (lies osd there)) (says.weighed osd (sym (any-mapped osd_of (nat_eq osd) inc.weight) ∙ given))) in

@@ -1,4 +1,4 @@
--- What a shard keeps beside the entries that it has read. Contracts of private calls cite it.
+-- What a shard keeps beside the entries that it has read. Invariants, and contracts of private calls, cite it.
 pub mod OsdFilter
 pub mod KeptGroup
 pub mod Rows

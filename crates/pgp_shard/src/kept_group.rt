@@ -9,7 +9,6 @@ ghost use Rattle.pgp_map.specs.Held.{HasGroup};
 ghost use Rattle.pgp_map.specs.MapFault.{then_with};
 ghost use Rattle.pgp_map.specs.MapOf.{IsMapOf};
 ghost use Rattle.pgp_map.specs.Pools.{has_group, temp};
-ghost use Rattle.pgp_map.specs.declared.map.OsdMap.{OsdMap as AnyMap};
 ghost use Rattle.pgp_group.specs.Entries.{inc_of, incs_of};
 ghost use Rattle.pgp_group.specs.GroupOf.{TellsNothingAhead};
 ghost use Rattle.pgp_group.specs.Touched.{is_touched, has_to_do_with, may_move};
@@ -220,6 +219,7 @@ impl KeptGroup {
 
     /// Whether the group has to do with the device: it stands in the raw set, in pg_temp or in a past interval, or sent a
     /// report.
+    #[tactic(auto, using(crate::proofs::RowLemmas::lies_there))]
     fn knows(&self, osd: OsdId) -> bool
         ensures { OfKeptLog self.now (λ log. result ≡ has_to_do_with log self.now.pg osd) }
     {

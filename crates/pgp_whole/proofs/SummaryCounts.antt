@@ -15,7 +15,7 @@ use Rattle.pgp_reasons.proofs.AwaitedLemmas.{blocked_by-ascends}
 use Rattle.pgp_reasons.specs.GroupWays.{brings_back}
 use Rattle.pgp_reasons.specs.Smallest.{holds}
 use Rattle.pgp_whole.specs.Summary.{blockers, counted, freers, has_verdict}
-use Rattle.pgp_whole.specs.Sums.{AreCounts}
+use Rattle.pgp_whole.specs.kept.Sums.{AreCounts}
 
 no-more : (osd : ℕ) (osds : List ℕ) → list_any (nat_eq osd) osds ≡ false → count_by (nat_eq osd) osds ≡ 0
 no-more osd [] none = refl

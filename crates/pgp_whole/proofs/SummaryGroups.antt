@@ -19,8 +19,8 @@ use Rattle.pgp_group.specs.Present.{IsPresent}
 use Rattle.pgp_group.specs.View.{scratch, view_of}
 use Rattle.pgp_group.proofs.Lists.{nothing_new, one_new}
 use Rattle.pgp_reasons.specs.Reasons.{IsViewed}
-use Rattle.pgp_whole.specs.Hearing.{AreStamps, hears, is_same_source, source_of}
-use Rattle.pgp_whole.specs.Sums.{AreSums}
+use Rattle.pgp_whole.specs.kept.Hearing.{AreStamps, hears, is_same_source, source_of}
+use Rattle.pgp_whole.specs.kept.Sums.{AreSums}
 use Rattle.pgp_whole.specs.declared.group_sums.GroupSums.{GroupSums}
 use Rattle.pgp_whole.specs.declared.stamps.Sender.{Sender}
 use Rattle.pgp_whole.proofs.SummaryHearing.{hears-all}

@@ -20,7 +20,7 @@ use Rattle.pgp_group.specs.Entries.{infos_of}
 use Rattle.pgp_group.specs.GroupLog.{GroupLog, incs}
 use Rattle.pgp_group.specs.Heard.{has_member, heard, counted_infos, is_counted, last_of_each_member}
 use Rattle.pgp_group.proofs.PeerLemmas.{same_member}
-use Rattle.pgp_whole.specs.Hearing.{AreStamps, hears, hears_by, is_same_source, source_of}
+use Rattle.pgp_whole.specs.kept.Hearing.{AreStamps, hears, hears_by, is_same_source, source_of}
 use Rattle.pgp_whole.specs.declared.stamps.Sender.{Sender}
 
 -- ---- one info more

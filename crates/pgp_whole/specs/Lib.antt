@@ -3,8 +3,6 @@ pub mod kept
 pub mod Compaction
 pub mod Joining
 pub mod Summary
-pub mod Sums
-pub mod Hearing
 pub mod SummaryText
 pub mod Reading
 pub mod Explained

@@ -2,7 +2,7 @@
 
 ghost use Rattle.std.specs.Prelude.{◌≡◌, IfOk};
 ghost use Rattle.pgp_whole.specs.Summary.{devices_of, is_waited_for};
-ghost use Rattle.pgp_whole.specs.Sums.{waits_in};
+ghost use Rattle.pgp_whole.specs.kept.Sums.{waits_in};
 
 use super::group_sums::GroupSums;
 use pgp_ids::{OsdId, Seq};

@@ -9,9 +9,9 @@ ghost use Rattle.pgp_group.specs.Heard.{has_member, heard};
 ghost use Rattle.pgp_group.specs.View.{view_of};
 ghost use Rattle.pgp_reasons.specs.Reasons.{IsViewed};
 ghost use Rattle.pgp_reasons.specs.Smallest.{holds};
-ghost use Rattle.pgp_whole.specs.Hearing.{AreStamps};
+ghost use Rattle.pgp_whole.specs.kept.Hearing.{AreStamps};
 ghost use Rattle.pgp_whole.specs.Summary.{blockers, freers, has_verdict, unheard};
-ghost use Rattle.pgp_whole.specs.Sums.{AreSums};
+ghost use Rattle.pgp_whole.specs.kept.Sums.{AreSums};
 
 use super::group_counts::GroupCounts;
 use super::stamps::{Sender, Stamps};

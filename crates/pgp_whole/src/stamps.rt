@@ -4,7 +4,7 @@ ghost use Rattle.std.specs.Prelude.{◌≡◌, ◌++◌, [], ◌∷◌, List, ma
 ghost use Rattle.std.specs.Option.{option_copied, option_map_or};
 ghost use Rattle.std.specs.Arc.{arc_value};
 ghost use Rattle.pgp_ids.specs.declared.entry.Entry.{Entry as AnyEntry};
-ghost use Rattle.pgp_whole.specs.Hearing.{AreStamps, source_of};
+ghost use Rattle.pgp_whole.specs.kept.Hearing.{AreStamps, source_of};
 
 use pgp_ids::{Entry, Epoch, Info, Member, OsdId, PgId};
 use std::alloc::{AllocError, Global};

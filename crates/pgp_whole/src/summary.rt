@@ -4,9 +4,9 @@ ghost use Rattle.std.specs.Prelude.{◌≡◌, ◌++◌, [], ◌∷◌, List, fi
 ghost use Rattle.pgp_ids.specs.declared.pg_id.PgId.{PgId as Group};
 ghost use Rattle.pgp_map.specs.MapOf.{Says};
 ghost use Rattle.pgp_group.specs.GroupLog.{group_in};
-ghost use Rattle.pgp_whole.specs.Hearing.{AreStamps};
+ghost use Rattle.pgp_whole.specs.kept.Hearing.{AreStamps};
 ghost use Rattle.pgp_whole.specs.Summary.{all_groups, groups_of_pool, summary_of, verdict_count};
-ghost use Rattle.pgp_whole.specs.Sums.{AreSums};
+ghost use Rattle.pgp_whole.specs.kept.Sums.{AreSums};
 
 use super::devices::{DeviceWaits, devices_of};
 use super::group_sums::GroupSums;

@@ -7,7 +7,7 @@ ghost use Rattle.pgp_log.specs.Locate.{place_of_object, place_with};
 ghost use Rattle.pgp_feed.specs.Receipts.{entries_of};
 ghost use Rattle.pgp_feed.specs.declared.receipt.Receipt.{Receipt as AnyReceipt};
 ghost use Rattle.pgp_engine.specs.declared.client.fault.LocateFault.TheVariants.{UnknownPool, Memory, NoReader};
-ghost use Rattle.pgp_engine.specs.Clients.{IsChartOf};
+ghost use Rattle.pgp_engine.specs.kept.Members.{IsChartOf};
 
 use super::fault::LocateFault;
 use crate::answer::Place;

@@ -8,7 +8,7 @@ ghost use Rattle.pgp_feed.specs.Receipts.{entries_of, feed_of};
 ghost use Rattle.pgp_feed.specs.Feeds.{told_of};
 ghost use Rattle.pgp_feed.specs.Taps.{last_of};
 ghost use Rattle.pgp_engine.specs.Faults.{refused_at};
-ghost use Rattle.pgp_engine.specs.Fronts.{Follows};
+ghost use Rattle.pgp_engine.specs.kept.Members.{Follows};
 ghost use Rattle.pgp_engine.specs.Intakes.{MayRefuse};
 ghost use Rattle.pgp_engine.specs.declared.fault.SubmitFault.TheVariants as submit;
 

@@ -1,16 +1,12 @@
 -- What is kept of the infos of a group while more come (this project's own choice).
-use Rattle.std.specs.Prelude.{◌≡◌, ◌≤◌, [], ◌∷◌, ◌++◌, Bool, false, take, filter, Contains}
+use Rattle.std.specs.Prelude.{◌≡◌, ◌≤◌, [], ◌∷◌, ◌++◌, false, take, filter, Contains}
 use Rattle.pgp_ids.specs.declared.report.Info.{Info}
 use Rattle.pgp_info.specs.Best.{HasDistinctMembers}
 use Rattle.pgp_map.specs.Map.{epoch}
 use Rattle.pgp_group.specs.GroupLog.{GroupLog, incs, infos}
-use Rattle.pgp_group.specs.Heard.{is_counted, last_of_each_member, les}
+use Rattle.pgp_group.specs.Heard.{counts, last_of_each_member, les}
 use Rattle.pgp_group.specs.kept.InboxOf.{IsInboxOf}
 use Rattle.pgp_group.specs.declared.infos.Infos.{Infos}
-
--- the info counts
-abbrev pub counts : GroupLog → Info → Bool
-counts g info = is_counted g info.member info.stamp
 
 -- all infos are kept, with the last epoch in which the group is known to have begun to serve, and some infos of distinct
 -- members as heard. Where each was sent in this epoch or before, those are kept as heard of which the ones that count are

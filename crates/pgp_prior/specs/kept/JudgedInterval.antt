@@ -13,11 +13,6 @@ pub record IsKept (enough : List ℕ → Bool) (by_place : Bool) (status : ℕ �
   pub statuses_are : (member : Member) → Contains (members_of by_place kept.past.members.acting) member → status_in kept.statuses.known.items member.osd ≡ Some (status member.osd kept.past.first)
   pub blocks_is : kept.blocks ≡ blocks enough by_place status les kept.past
 
--- both tell the same of the acting members of the interval
-abbrev pub AgreeOnMembers : Bool → (ℕ → ℕ → Status) → (ℕ → ℕ → Status) → Past → Type 0
-AgreeOnMembers by_place told status past =
-    (member : Member) → Contains (members_of by_place past.members.acting) member → told member.osd past.first ≡ status member.osd past.first
-
 abbrev pub past_of : JudgedInterval → Past
 past_of kept = kept.past
 

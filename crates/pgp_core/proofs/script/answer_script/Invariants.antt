@@ -1,5 +1,6 @@
 use Rattle.std.proofs.Common.{◌≡◌, ◌<◌, length}
-use Rattle.pgp_core.specs.Telling.{Reads, run_start}
+use Rattle.pgp_core.specs.Telling.{run_start}
+use Rattle.pgp_core.specs.kept.Progress.{Reads}
 use Rattle.pgp_core.proofs.script.answer_script.Given as goal
 
 abbrev pub invariant-loop-script : goal.invariant-loop-script

@@ -1,5 +1,5 @@
 use Rattle.pgp_group.proofs.Common.{◌<◌, List, length, ap, subst, sym, ◌∙◌, Contains, filter, Info, HasDistinctMembers, Heard, distinct_without, Preference}
-use Rattle.pgp_group.specs.kept.KeptInfos.{counts}
+use Rattle.pgp_group.specs.Heard.{counts}
 use Rattle.pgp_group.proofs.PeerLemmas.{passing-without, shorter-without}
 use Rattle.pgp_group.proofs.heard.forget_uncounted.Goals as goal
 

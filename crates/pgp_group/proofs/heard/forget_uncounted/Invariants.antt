@@ -1,5 +1,5 @@
 use Rattle.pgp_group.proofs.Common.{◌≡◌, length, filter, HasDistinctMembers, GroupLog, IsPresent}
-use Rattle.pgp_group.specs.kept.KeptInfos.{counts}
+use Rattle.pgp_group.specs.Heard.{counts}
 use Rattle.pgp_group.proofs.heard.forget_uncounted.Given as goal
 
 -- the infos that count are left

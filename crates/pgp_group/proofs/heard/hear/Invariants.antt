@@ -1,5 +1,5 @@
 use Rattle.pgp_group.proofs.Common.{◌≡◌, take, filter, with_infos, GroupLog, IsPresent}
-use Rattle.pgp_group.specs.kept.KeptInfos.{counts}
+use Rattle.pgp_group.specs.Heard.{counts}
 use Rattle.pgp_group.proofs.heard.hear.Given as goal
 
 abbrev pub invariant-loop-info : goal.invariant-loop-info

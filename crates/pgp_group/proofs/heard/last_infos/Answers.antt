@@ -1,5 +1,5 @@
 use Rattle.pgp_group.proofs.Common.{List, [], ap, ◌∙◌, filter, Info, Heard, with_infos, Preference}
-use Rattle.pgp_group.specs.kept.KeptInfos.{counts}
+use Rattle.pgp_group.specs.Heard.{counts}
 use Rattle.pgp_group.proofs.InfosLemmas.{with_infos-last}
 use Rattle.pgp_group.proofs.heard.last_infos.Goals as goal
 

@@ -10,7 +10,7 @@ use Rattle.pgp_info.specs.declared.preference.Preference.{Preference}
 use Rattle.pgp_group.specs.Entries.{incs_of}
 use Rattle.pgp_group.specs.GroupLog.{cleans, infos}
 use Rattle.pgp_group.specs.Heard.{heard}
-use Rattle.pgp_group.specs.kept.KeptInfos.{counts}
+use Rattle.pgp_group.specs.Heard.{counts}
 use Rattle.pgp_reasons.specs.Blocking.{blocking_of, clean_of}
 use Rattle.pgp_reasons.specs.Copies.{copies_of}
 use Rattle.pgp_reasons.specs.Short.{short_of}

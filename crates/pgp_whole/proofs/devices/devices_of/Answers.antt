@@ -3,7 +3,7 @@ use Rattle.std.specs.List.{filter, range_with_len}
 use Rattle.std.specs.Option.{is_some}
 use Rattle.pgp_lists.specs.Ordered.{IsAscending, with_item}
 use Rattle.pgp_whole.specs.Summary.{is_waited_for, stands_first}
-use Rattle.pgp_whole.specs.Sums.{waits_in}
+use Rattle.pgp_whole.specs.kept.Sums.{waits_in}
 use Rattle.pgp_whole.specs.declared.devices.DeviceWaits.{DeviceWaits}
 use Rattle.pgp_whole.proofs.SummaryDevices.{all_numbers, ascends, one-waits}
 use Rattle.pgp_whole.proofs.devices.devices_of.Goals as goal

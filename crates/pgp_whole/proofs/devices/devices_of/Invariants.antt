@@ -1,5 +1,5 @@
 use Rattle.std.proofs.Common.{◌≡◌}
-use Rattle.pgp_whole.specs.Sums.{waits_in}
+use Rattle.pgp_whole.specs.kept.Sums.{waits_in}
 use Rattle.pgp_whole.proofs.SummaryDevices.{from_number}
 use Rattle.pgp_whole.proofs.devices.devices_of.Given as goal
 

@@ -2,7 +2,7 @@ use Rattle.std.proofs.Common.{false, ap, ◌∙◌}
 use Rattle.std.specs.HashMap as hash
 use Rattle.std.specs.Option.{option_map_or}
 use Rattle.pgp_group.specs.Heard.{is_counted}
-use Rattle.pgp_whole.specs.Hearing.{is_same_source}
+use Rattle.pgp_whole.specs.kept.Hearing.{is_same_source}
 use Rattle.pgp_whole.proofs.SummaryGroups.{heard-by, is-present}
 use Rattle.pgp_whole.proofs.group_sums.has_heard.Goals as goal
 

@@ -7,7 +7,7 @@ use Rattle.pgp_group.specs.GroupLog.{GroupLog}
 use Rattle.pgp_group.specs.Heard.{has_member, heard}
 use Rattle.pgp_reasons.specs.Reasons.{IsViewed}
 use Rattle.pgp_reasons.specs.Smallest.{holds}
-use Rattle.pgp_whole.specs.Hearing.{AreStamps}
+use Rattle.pgp_whole.specs.kept.Hearing.{AreStamps}
 use Rattle.pgp_whole.proofs.group_sums.unheard_of.Given as goal
 
 abbrev pub invariant-loop-member : goal.invariant-loop-member

@@ -2,7 +2,7 @@ use Rattle.std.proofs.Common.{◌≡◌, ◌||◌, false, Some, cond, max, ap, s
 use Rattle.std.specs.HashMap as hash
 use Rattle.std.specs.Option.{option_map_or}
 use Rattle.pgp_group.specs.Heard.{is_counted}
-use Rattle.pgp_whole.specs.Hearing.{hears, is_same_source, source_of}
+use Rattle.pgp_whole.specs.kept.Hearing.{hears, is_same_source, source_of}
 use Rattle.pgp_whole.proofs.SummaryHearing.{info-more, stamps-more}
 use Rattle.pgp_whole.proofs.stamps.put_entry.Goals as goal
 

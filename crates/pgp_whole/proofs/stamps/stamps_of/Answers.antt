@@ -2,7 +2,7 @@ use Rattle.std.proofs.Common.{◌≡◌, ℕ, ◌++◌, List, [], ◌∷◌, map
 use Rattle.std.specs.Arc.{arc_value}
 use Rattle.std.proofs.lemmas.List.{map_more, take_all}
 use Rattle.pgp_ids.specs.declared.entry.Entry.{Entry}
-use Rattle.pgp_whole.specs.Hearing.{AreStamps}
+use Rattle.pgp_whole.specs.kept.Hearing.{AreStamps}
 use Rattle.pgp_whole.proofs.stamps.stamps_of.Goals as goal
 
 pub loop-entry-preserved : goal.loop-entry-preserved

@@ -6,9 +6,9 @@ use Rattle.pgp_map.specs.MapOf.{IsMapOf}
 use Rattle.pgp_map.specs.Map.{epoch}
 use Rattle.pgp_group.specs.Entries.{incs_of}
 use Rattle.pgp_group.specs.GroupLog.{group_in}
-use Rattle.pgp_whole.specs.Hearing.{AreStamps}
+use Rattle.pgp_whole.specs.kept.Hearing.{AreStamps}
 use Rattle.pgp_whole.specs.Summary.{all_groups, devices_of, down_from, group_logs, waits_of}
-use Rattle.pgp_whole.specs.Sums.{AreSums, waits_in}
+use Rattle.pgp_whole.specs.kept.Sums.{AreSums, waits_in}
 use Rattle.pgp_whole.proofs.SummaryDevices.{devices-agree}
 use Rattle.pgp_whole.proofs.summary.summary_of.Goals as goal
 

@@ -4,8 +4,8 @@ use Rattle.std.proofs.lemmas.List.{take_all, take_more}
 use Rattle.pgp_ids.specs.declared.entry.Entry.{Entry}
 use Rattle.pgp_ids.specs.declared.pg_id.PgId.{PgId}
 use Rattle.pgp_group.specs.GroupLog.{group_in}
-use Rattle.pgp_whole.specs.Hearing.{AreStamps}
-use Rattle.pgp_whole.specs.Sums.{AreSums}
+use Rattle.pgp_whole.specs.kept.Hearing.{AreStamps}
+use Rattle.pgp_whole.specs.kept.Sums.{AreSums}
 use Rattle.pgp_whole.specs.declared.group_sums.GroupSums.{GroupSums}
 use Rattle.pgp_whole.proofs.summary.sums_of.Goals as goal
 

@@ -1,6 +1,6 @@
 use Rattle.std.proofs.Common.{◌≡◌, ◌≤◌, ◌++◌, false, length, refl, subst, sym, ◌∙◌}
 use Rattle.std.proofs.lemmas.Option.{IfSome_then}
-use Rattle.pgp_core.specs.Line.{KeptBy}
+use Rattle.pgp_core.specs.kept.Line.{KeptBy}
 use Rattle.pgp_core.specs.Lines.{is_blank}
 use Rattle.pgp_core.specs.Script.{longest_line}
 use Rattle.pgp_core.specs.WrittenFor.{PutsLine}

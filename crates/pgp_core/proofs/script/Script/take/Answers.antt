@@ -4,7 +4,8 @@ use Rattle.std.proofs.lemmas.List.{nil_from_length, take_rest}
 use Rattle.pgp_core.specs.Lines.{cut}
 use Rattle.pgp_core.specs.declared.fault.ScriptFault.TheVariants.{Read, Write}
 use Rattle.pgp_core.specs.declared.input.Bounds.{Bounds}
-use Rattle.pgp_core.specs.Telling.{IsAfterBytes, IsStopped, StopsIn}
+use Rattle.pgp_core.specs.Telling.{IsStopped}
+use Rattle.pgp_core.specs.kept.Progress.{IsAfterBytes, StopsIn}
 use Rattle.pgp_core.proofs.RunLemmas.{after-line, after-piece, full, line-front, line_of_cut, passed_on, piece-front, regroup, regroup_line, stopped-after, taken-more}
 use Rattle.pgp_core.proofs.script.Script.take.Goals as goal
 

@@ -1,5 +1,5 @@
 use Rattle.std.proofs.Common.{◌≡◌, ◌+◌, length}
-use Rattle.pgp_core.specs.Telling.{ChunkPart}
+use Rattle.pgp_core.specs.kept.Progress.{ChunkPart}
 use Rattle.pgp_core.proofs.script.Script.take.Given as goal
 
 abbrev pub invariant-loop-rest : goal.invariant-loop-rest

@@ -1,4 +1,4 @@
-use Rattle.std.proofs.Common.{[], ◌∷◌, ◌++◌, List, map, ap, ap₂, sym, ◌∙◌, arith}
+use Rattle.std.proofs.Common.{[], ◌∷◌, ◌++◌, List, map, ap, sym, ◌∙◌, arith}
 use Rattle.std.proofs.lemmas.List.{take_all}
 use Rattle.std.specs.Arc.{arc_value}
 use Rattle.pgp_ids.specs.declared.entry.Entry.{Entry}
@@ -8,19 +8,19 @@ use Rattle.pgp_feed.specs.Receipts.{entries_of}
 use Rattle.pgp_feed.specs.Feeds.{told_of}
 use Rattle.pgp_engine.proofs.engine.make.publish_all.Goals as goal
 
-pub publish-requires : goal.publish-requires
-publish-requires g c =
+pub publish_shared-requires : goal.publish_shared-requires
+publish_shared-requires g c =
     let log : List Entry = entries_of (told_of c.args.feed.now) in
-    ap₂ fits c.loop-entry.invariant.log c.in_ok-copy.ensures
+    ap (λ (l : List Entry). fits l (arc_value c.entry-item.result)) c.loop-entry.invariant.log
     ∙ next-of-legal log arc_value c.args.entries.now c.loop-entry.entry-index c.entry-item.result c.requires c.loop-entry-test.true c.entry-item.is
 
 pub loop-entry-preserved : goal.loop-entry-preserved
 loop-entry-preserved g c =
     let log : List Entry = entries_of (told_of c.args.feed.now) in
     record {
-      feed = c.publish.ensures.feed ∙ c.loop-entry.invariant.feed;
-      log = ap entries_of (sym c.in-Ok.ensures.published.0) ∙ (c.in-Ok.ensures.published.1
-          ∙ (ap₂ (λ (l : List Entry) (x : Entry). l ++ x ∷ []) c.loop-entry.invariant.log c.in_ok-copy.ensures
+      feed = c.publish_shared.ensures.feed ∙ c.loop-entry.invariant.feed;
+      log = ap entries_of (sym c.in_ok-publish_shared.ensures.published.0) ∙ (c.in_ok-publish_shared.ensures.published.1
+          ∙ (ap (λ (l : List Entry). l ++ arc_value c.entry-item.result ∷ []) c.loop-entry.invariant.log
           ∙ sym (next-after log arc_value c.args.entries.now c.loop-entry.entry-index c.entry-item.result c.loop-entry-test.true c.entry-item.is)));
     }
 

@@ -1,5 +1,5 @@
 use Rattle.pgp_group.proofs.Common.{◌≡◌, List, false, drop, ap, ap₂, sym, ◌∙◌, filter, Info, Heard, with_infos, Preference, infos, last_of_each_member}
-use Rattle.pgp_group.specs.kept.KeptInfos.{counts}
+use Rattle.pgp_group.specs.Heard.{counts}
 use Rattle.pgp_group.proofs.InboxLemmas.{unseen-is}
 use Rattle.pgp_group.proofs.InfosLemmas.{heard-more}
 use Rattle.pgp_group.proofs.infos.Infos.heard_by.Goals as goal

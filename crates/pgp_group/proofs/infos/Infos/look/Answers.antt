@@ -1,5 +1,5 @@
 use Rattle.pgp_group.proofs.Common.{◌≡◌, List, refl, drop, ap, ap₂, sym, ◌∙◌, filter, Info, Heard, with_infos, Preference, infos, heard}
-use Rattle.pgp_group.specs.kept.KeptInfos.{counts}
+use Rattle.pgp_group.specs.Heard.{counts}
 use Rattle.pgp_group.proofs.InboxLemmas.{unseen-is}
 use Rattle.pgp_group.proofs.InfosLemmas.{heard-on, KeepsInfos-heard}
 use Rattle.pgp_group.proofs.infos.Infos.look.Goals as goal

@@ -1,6 +1,6 @@
 -- What was read of a script.
 use Rattle.std.specs.Prelude.{◌≡◌, ℕ, ◌+◌, List, [], length}
-use Rattle.pgp_core.specs.Line.{HoldsLine}
+use Rattle.pgp_core.specs.kept.Line.{HoldsLine}
 use Rattle.pgp_core.specs.Lines.{cut}
 use Rattle.pgp_core.specs.declared.input.Bounds.{Bounds}
 use Rattle.pgp_core.specs.declared.input.Input.{Input}
